@@ -30,7 +30,8 @@ uint32_t yalwythen_version(void);
 
 /* ---- Results ---- */
 
-/* How a call ended. Unless a comment says otherwise, a call that does not return OK changes nothing. */
+/* How a call ended. Unless a comment says otherwise, a call that does not return OK changes nothing. A call with a bad
+   pointer returns MISUSE (reason NULL or NO_DOMAIN), which the comments of calls do not repeat. */
 typedef enum yalwythen_status {
     YALWYTHEN_OK = 0,
     YALWYTHEN_RETRY = 1,     /* the transaction cannot commit now, and can later; `cause` says why */
@@ -59,7 +60,7 @@ typedef enum yalwythen_reason {
     YALWYTHEN_REASON_NO_READER = 1,      /* the broadcast has no reader of this number */
     YALWYTHEN_REASON_NOTHING_READ,       /* a `_LAST` operation before the transaction read or peeked an item */
     YALWYTHEN_REASON_TOO_MANY_READERS,   /* the broadcast has 64 readers, which is the most */
-    YALWYTHEN_REASON_WORN,               /* a counter of the domain is at its end, after 2^64 transactions */
+    YALWYTHEN_REASON_WORN,               /* a serial, a stamp or a log has reached 2^64 - 1 */
     YALWYTHEN_REASON_BY_CALLER,          /* `yalwythen_abort` */
     /* with INVALID */
     YALWYTHEN_REASON_NO_CHANNEL = 33,    /* the domain has no channel of this number */

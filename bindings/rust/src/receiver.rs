@@ -180,7 +180,7 @@ impl<T, K: QueueKind> Receiver<T, K> {
 
     /// Returns the number of values in the queue at this moment.
     ///
-    /// The library counts a copy of their numbers, so this takes time and memory in proportion.
+    /// Copies a number for each of them, so time and memory grow with the length.
     ///
     /// # Panics
     ///
@@ -219,6 +219,10 @@ impl<T, K: QueueKind + CloseKind> Receiver<T, K> {
     /// Closes the queue: later sends fail. What is in it can still be read.
     ///
     /// Does nothing if the queue is closed. Blocks only while other threads have the domain's lock.
+    ///
+    /// # Panics
+    ///
+    /// If a closure of `atomically` on this domain calls it.
     pub fn close(&self) {
         self.chan.close();
     }

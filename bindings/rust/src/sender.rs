@@ -149,7 +149,7 @@ impl<T: Send + 'static, K: Kind> Sender<T, K> {
 impl<T, K: QueueKind> Sender<T, K> {
     /// Returns the number of values in the queue at this moment.
     ///
-    /// The library counts a copy of their numbers, so this takes time and memory in proportion.
+    /// Copies a number for each of them, so time and memory grow with the length.
     ///
     /// # Panics
     ///
@@ -195,6 +195,10 @@ impl<T, K: CloseKind> Sender<T, K> {
     /// Closes the channel, though other senders may be left. What is in it can still be read.
     ///
     /// Does nothing if the channel is closed. Blocks only while other threads have the domain's lock.
+    ///
+    /// # Panics
+    ///
+    /// If a closure of `atomically` on this domain calls it.
     pub fn close(&self) {
         self.chan.close();
     }

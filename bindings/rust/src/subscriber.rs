@@ -143,7 +143,7 @@ impl<T: Send + Sync + 'static, K: BroadcastKind> Subscriber<T, K> {
 
     /// Returns the number of values that this subscriber has left to read at this moment.
     ///
-    /// The library counts a copy of their numbers, so this takes time and memory in proportion.
+    /// Copies a number for each of them, so time and memory grow with the length.
     ///
     /// # Panics
     ///

@@ -289,8 +289,9 @@ impl Cast {
         self.tokens.pop();
     }
 
-    /// Undoes a reader's take of this item. A written item must be just before the reader's list, which must then have
-    /// no put-back. For a put-back, the reader's count must be at least 1, and falls by 1.
+    /// Undoes a reader's take of this item. If the item was written, it must be the one just before those that the
+    /// reader has left to read, and the reader must have no put-back. If the item was put back, the reader's count of
+    /// takes of put-backs that can be undone must be at least 1, and falls by 1.
     pub fn undo_take(&mut self, reader: u16, item: Item)
         requires { CanUntakeAt self.old reader item }
         ensures value { self.new ≡ untaken self.old reader item }

@@ -8,8 +8,8 @@ use Rattle.txc_cmd_report.specs.declared.seat_end.SeatEnd.{SeatEnd}
 use Rattle.txc_cmd_report.specs.declared.seat_end.SeatEnd.TheVariants.{Finished}
 use Rattle.txc_table.specs.Seat.{SeatView, LeftSeatView}
 use Rattle.txc_table.specs.Table.{TableView, decls_of}
-use Rattle.txc_cmd_threads.specs.declared.pool.Back.{Back}
-use Rattle.txc_cmd_threads.specs.declared.job.Served.{Served}
+use Rattle.txc_cmd_threads.specs.declared.pool.Results.{Results}
+use Rattle.txc_cmd_threads.specs.declared.job.JobResult.{JobResult}
 use Rattle.txc_cmd_threads.specs.Serves.{Serves}
 
 -- a seat of this table, which was like this before, ran these transactions, ended so and left
@@ -29,19 +29,19 @@ abbrev pub SeatHasRun : TableView → List CheckedView → Option SeatView → L
 SeatHasRun table plans seat left end = (one : SeatView) → seat ≡ Some one → HasServed table plans one.sitting left end
 
 -- this number of seats are back, and each of them, with its number and its end, is in this relation
-pub record AllBack {L : Type 0} (many : ℕ) (so : ℕ → L → SeatEnd → Type 0) (back : Back L) : Type 0 where
-  pub left : vec_len back.left ≡ many
-  pub ends : vec_len back.ends ≡ many
+pub record AllBack {L : Type 0} (many : ℕ) (so : ℕ → L → SeatEnd → Type 0) (results : Results L) : Type 0 where
+  pub left : vec_len results.left ≡ many
+  pub ends : vec_len results.ends ≡ many
   pub each : (k : ℕ) (d : L) → k < many
-      → so k (slice_index_or back.left.items k d) (slice_index_or back.ends.items k Finished)
+      → so k (slice_index_or results.left.items k d) (slice_index_or results.ends.items k Finished)
 
 -- these are the seats and the ends of these results
-pub record AreSorted {L : Type 0} (served : List (Served L)) (back : Back L) : Type 0 where
-  pub left : vec_len back.left ≡ length served
-  pub ends : vec_len back.ends ≡ length served
-  pub each : (k : ℕ) (s : Served L) (l : L) (e : SeatEnd) → k < length served
-      → (slice_index_or back.left.items k l ≡ (slice_index_or served k s).left)
-      × (slice_index_or back.ends.items k e ≡ (slice_index_or served k s).end)
+pub record AreUnzipped {L : Type 0} (served : List (JobResult L)) (results : Results L) : Type 0 where
+  pub left : vec_len results.left ≡ length served
+  pub ends : vec_len results.ends ≡ length served
+  pub each : (k : ℕ) (s : JobResult L) (l : L) (e : SeatEnd) → k < length served
+      → (slice_index_or results.left.items k l ≡ (slice_index_or served k s).left)
+      × (slice_index_or results.ends.items k e ≡ (slice_index_or served k s).end)
 
 -- each of these seats has run its transactions on these channels
 abbrev pub HaveServed : List Decl → List (List CheckedView) → List LeftSeatView → List SeatEnd → Type 0

@@ -10,7 +10,7 @@ ghost use Rattle.txc_cmd_threads.specs.Pool.{HaveServed};
 ghost use Rattle.txc_cmd_threads.specs.Ran.{IsNotTorn};
 
 use crate::final_tries::{Retried, retry_stalled};
-use crate::pool::Back;
+use crate::pool::Results;
 use crate::run_fault::RunFault;
 use std::alloc::Global;
 use std::sync::Wait;
@@ -38,18 +38,18 @@ pub(crate) fn close<R: Wait>(
     alloc: Global,
     table: Table,
     plans: &[Vec<Checked>],
-    back: Back<LeftSeat>,
+    results: Results<LeftSeat>,
 ) -> Result<Outcome, RunFault>
-    requires back { AreBack table.lines table.seats back.left.items }
-    requires left { vec_len back.left ≡ length plans.now }
-    requires ended { vec_len back.ends ≡ length plans.now }
+    requires back { AreBack table.lines table.seats results.left.items }
+    requires left { vec_len results.left ≡ length plans.now }
+    requires ended { vec_len results.ends ≡ length plans.now }
     requires fits { All (All (λ plan. Fits (slice_get table.kinds) plan.steps)) (map (λ seat. seat.items) plans.now) }
     requires served { HaveServed (decls_of table.lines)
-        (map (λ seat. seat.items) plans.now) back.left.items back.ends.items }
+        (map (λ seat. seat.items) plans.now) results.left.items results.ends.items }
     ensures ok { IfOk result (IsClosed table (map (λ seat. seat.items) plans.now)) }
     ensures err { IfErr result IsNotTorn }
 {
-    let Back { left, ends } = back;
+    let Results { left, ends } = results;
     let Ok(idle) = table.into_idle(rt, alloc, left) else {
         return Err(RunFault::NoMemory);
     };

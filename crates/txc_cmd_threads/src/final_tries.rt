@@ -85,7 +85,7 @@ fn find_ready<R: Wait>(
 
 /// Runs the next transactions of this stalled seat in order, until all have committed or one does not commit. Returns
 /// the table and how the seat's transactions ended. Allocates.
-fn go_on<R: Wait>(
+fn resume<R: Wait>(
     rt: &R,
     alloc: Global,
     idle: IdleTable,
@@ -149,7 +149,7 @@ pub(crate) fn retry_stalled<R: Wait>(
         let Some(at) = find_ready(rt, alloc, &mut idle, plans, &mut ends) else {
             return Retried { idle, ends };
         };
-        let (after, end) = go_on(rt, alloc, idle, at, plans[at].as_slice());
+        let (after, end) = resume(rt, alloc, idle, at, plans[at].as_slice());
         idle = after;
         ends[at] = end;
     }

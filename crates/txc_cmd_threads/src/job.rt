@@ -42,19 +42,19 @@ impl<R: Wait, G: Drop> Drop for Job<'_, R, G> {
 
 /// A seat that has left, and how its transactions ended.
 #[derive(Drop)]
-pub(crate) struct Served<L> {
+pub(crate) struct JobResult<L> {
     pub(crate) left: L,
     pub(crate) end: SeatEnd,
 }
 
-impl<R: Wait, G: Gate + Drop> Task<Served<LeftSeat>> for Job<'_, R, G> {
+impl<R: Wait, G: Gate + Drop> Task<JobResult<LeftSeat>> for Job<'_, R, G> {
     ghost use Rattle.txc_cmd_threads.specs.Pool.{CanRun, SeatHasRun};
 
     ghost Can = { λ job. CanRun job.table.now job.plans.now job.seat };
 
     ghost Does = { λ job served. SeatHasRun job.table.now job.plans.now job.seat served.left served.end };
 
-    fn perform(self) -> Served<LeftSeat> {
+    fn perform(self) -> JobResult<LeftSeat> {
         run_job(self)
     }
 }
@@ -68,7 +68,7 @@ pub(crate) fn show_shared_plans()
 
 /// Calls the gate, with no lock held, runs the transactions of a job, which must have its seat, and makes the seat
 /// leave.
-fn run_job<R: Wait, G: Gate + Drop>(job: Job<'_, R, G>) -> Served<LeftSeat>
+fn run_job<R: Wait, G: Gate + Drop>(job: Job<'_, R, G>) -> JobResult<LeftSeat>
     requires can { CanRun job.table.now job.plans.now job.seat }
     ensures { SeatHasRun job.entry.table.now job.entry.plans.now job.entry.seat result.left result.end }
 {
@@ -79,7 +79,7 @@ fn run_job<R: Wait, G: Gate + Drop>(job: Job<'_, R, G>) -> Served<LeftSeat>
     };
     let mut seat = seat;
     let end = serve(job.rt, job.alloc, job.table, &mut seat, job.plans);
-    Served {
+    JobResult {
         left: job.table.leave(job.rt, seat),
         end,
     }

@@ -4,10 +4,10 @@ ghost use Rattle.std.specs.Prelude.{slice_index_or, vec_capacity, vec_len};
 ghost use Rattle.txc_txn_check.specs.Steps.{Fits};
 ghost use Rattle.txc_table_seat.specs.Seated.{untouched};
 ghost use Rattle.txc_base_threads.specs.Came.{AllCame};
-ghost use Rattle.txc_cmd_threads.specs.Pool.{AllBack, AreSorted, HasServed};
+ghost use Rattle.txc_cmd_threads.specs.Pool.{AllBack, AreUnzipped, HasServed};
 ghost use Rattle.txc_cmd_threads.specs.Ran.{IsNotTorn};
 
-use crate::job::{Job, Served, show_shared_plans};
+use crate::job::{Job, JobResult, show_shared_plans};
 use crate::run_fault::RunFault;
 use std::alloc::Global;
 use std::sync::Wait;
@@ -29,7 +29,7 @@ pub(crate) struct Pool<'a, R> {
 
 /// The seats that have left, by their numbers, and how their transactions ended.
 #[derive(Drop)]
-pub(crate) struct Back<L> {
+pub(crate) struct Results<L> {
     pub(crate) left: Vec<L>,
     pub(crate) ends: Vec<SeatEnd>,
 }
@@ -45,7 +45,7 @@ fn leave_all<R: Wait>(rt: &R, table: &Table, seats: Vec<Seat>)
     seats.destroy_empty();
 }
 
-/// Appends a job for each seat, in the order of their numbers, to `jobs`, which must have the capacity.
+/// Adds a job for each seat, in the order of their numbers, to `jobs`, which must be empty and have capacity for them.
 fn make_jobs<'a, R: Wait, G: Drop>(
     pool: &Pool<'a, R>,
     seats: Vec<Seat>,
@@ -79,21 +79,22 @@ fn make_jobs<'a, R: Wait, G: Drop>(
     seats.destroy_empty();
 }
 
-/// Sorts the results of the threads into a list of seats and a list of ends. Fails with `NoMemory` if allocation fails.
-fn sort_out<L: Drop>(alloc: Global, served: Vec<Served<L>>) -> Result<Back<L>, RunFault>
+/// Unzips the results of the threads into a list of seats and a list of ends. Fails with `NoMemory` if allocation
+/// fails.
+fn unzip_results<L: Drop>(alloc: Global, served: Vec<JobResult<L>>) -> Result<Results<L>, RunFault>
     ensures early { IfErr result IsNotTorn }
-    ensures sorted { IfOk result (AreSorted served.items) }
+    ensures unzipped { IfOk result (AreUnzipped served.items) }
 {
-    let mut back = Back {
+    let mut results = Results {
         left: Vec::new(alloc),
         ends: Vec::new(alloc),
     };
     for one in served {
-        let Served { left, end } = one;
-        back.left.push(left)?;
-        back.ends.push(end)?;
+        let JobResult { left, end } = one;
+        results.left.push(left)?;
+        results.ends.push(end)?;
     }
-    Ok(back)
+    Ok(results)
 }
 
 /// Performs each job in a thread of its own, and returns the seats and how they ended, in the order of the jobs.
@@ -104,14 +105,15 @@ fn run_jobs<
     'a,
     R: Threads + Wait + Sync + 'a,
     L: Send + Drop + 'a,
-    J: Task<Served<L>> + Send + Drop + 'a,
->(rt: &'a R, alloc: Global, jobs: Vec<J>) -> Result<Back<L>, RunFault>
+    J: Task<JobResult<L>> + Send + Drop + 'a,
+>(rt: &'a R, alloc: Global, jobs: Vec<J>) -> Result<Results<L>, RunFault>
     requires can { (k : ℕ) (j : _) → k < vec_len jobs → J.Can (slice_index_or jobs.items k j) }
     ensures early { IfErr result IsNotTorn }
-    ensures back { IfOk result (λ back. (served : _) × AllCame J.Does jobs.items served × AreSorted served back) }
+    ensures back { IfOk result (λ results. (served : _) × AllCame J.Does jobs.items served
+        × AreUnzipped served results) }
 {
     match run_all(rt, alloc, jobs) {
-        Ok(served) => sort_out(alloc, served),
+        Ok(served) => unzip_results(alloc, served),
         Err(StartError::NoThread) => Err(RunFault::NoThread),
         Err(StartError::NoMemory) => Err(RunFault::NoMemory),
     }
@@ -126,7 +128,7 @@ pub(crate) fn work_all<'a, R: Threads + Wait + Sync + 'a, G: Gate + Send + Drop 
     pool: Pool<'a, R>,
     seats: Vec<Seat>,
     gates: Vec<G>,
-) -> Result<Back<LeftSeat>, RunFault>
+) -> Result<Results<LeftSeat>, RunFault>
     requires fits { All (All (λ plan. Fits (slice_get pool.table.now.kinds) plan.steps))
         (map (λ seat. seat.items) pool.plans.now) }
     requires seats { vec_len seats ≡ length pool.plans.now }

@@ -56,8 +56,8 @@ pub fn run_gated<R: Threads + Wait + Sync, G: Gate + Send + Drop>(
         table: &table,
         plans,
     };
-    let back = work_all(pool, seats, gates)?;
-    close(rt, alloc, table, plans, back)
+    let results = work_all(pool, seats, gates)?;
+    close(rt, alloc, table, plans, results)
 }
 
 /// Runs a script with one thread per seat and returns its outcome, like `run_gated` with gates that do nothing. Fails

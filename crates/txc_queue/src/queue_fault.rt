@@ -6,7 +6,7 @@ ghost use Rattle.txc_queue.specs.QueueFault.{queue_fault_code};
 use std::alloc::{AllocError, AllocFailed};
 use thiserror::Error;
 
-/// Why a call of a queue failed.
+/// Why a call of a queue failed. Only `BoundQueue::write` and `BoundQueue::put_back` return `Full`.
 #[derive(Debug, Clone, Copy, PartialEq, Eq, Error)]
 pub enum QueueFault {
     /// The queue holds its bound or more.

@@ -16,7 +16,7 @@ use Rattle.txc_table_line.specs.Line.{LineId, BookSharesView}
 use Rattle.txc_table_lines.specs.Accounted.{AreAccounts, summary_in, with_logs}
 use Rattle.txc_table_lines.specs.Locked.{AreClean, HaveParts, amounts_in, books_in, books_of, channel_at, helds_of}
 use Rattle.txc_table_lines.specs.Locked.{lines_of, made_in}
-use Rattle.txc_table.specs.declared.closing.Draft.{Draft}
+use Rattle.txc_table.specs.declared.closing.ReportBuffers.{ReportBuffers}
 use Rattle.txc_table.specs.Finished.{AreRanBy, IsOneHistory}
 use Rattle.txc_table.specs.Refused.{AreBack}
 use Rattle.txc_table.specs.Seat.{AllStand, LeftSeatView, sittings_of}
@@ -47,22 +47,22 @@ marks_in channels n = (channel_at channels n).marks
 
 -- the receipts of each of these
 abbrev pub receipts_of : List HistoryView → List (List Receipt)
-receipts_of done = map (λ one. one.sitting.receipts) done
+receipts_of histories = map (λ one. one.sitting.receipts) histories
 
 -- the transactions of each of these
 abbrev pub plans_of : List HistoryView → List (List CheckedView)
-plans_of done = map (λ one. one.sitting.plans) done
+plans_of histories = map (λ one. one.sitting.plans) histories
 
--- the draft has the accounts of these channels, without their logs, shares that count nothing, and room for the records
--- of this number of seats and for their receipts
-pub record IsDraft (channels : List LedgeredView) (many : ℕ) (draft : Draft) : Type 0 where
+-- these buffers have the accounts of these channels, without their logs, shares that count nothing, and empty lists
+-- with room for the histories of this number of seats and for their receipts
+pub record AreBuffers (channels : List LedgeredView) (many : ℕ) (buffers : ReportBuffers) : Type 0 where
   pub accounts : AreAccounts (line_decls (lines_of channels)) (helds_of channels) (length channels)
-      (with_logs draft.accounts.items (helds_of channels))
-  pub shares : AreNone channels draft.shares
-  pub none_done : draft.done.items ≡ []
-  pub room_done : many ≤ vec_capacity draft.done
-  pub none : draft.receipts.items ≡ []
-  pub room : many ≤ vec_capacity draft.receipts
+      (with_logs buffers.accounts.items (helds_of channels))
+  pub shares : AreNone channels buffers.shares
+  pub no_histories : buffers.histories.items ≡ []
+  pub room_for_histories : many ≤ vec_capacity buffers.histories
+  pub no_receipts : buffers.receipts.items ≡ []
+  pub room_for_receipts : many ≤ vec_capacity buffers.receipts
 
 -- the report of a table with these lines and this number of seats, which have left; each act of a receipt is the entry
 -- at its place

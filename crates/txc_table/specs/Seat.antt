@@ -61,11 +61,11 @@ abbrev pub new_seats : TableLines → ℕ → List SeatView
 new_seats lines zero = []
 new_seats lines (suc n) = new_seats lines n ++ new_seat lines n ∷ []
 
--- these are the records of new seats of a table with this number of channels, numbered from this one on
-abbrev pub AreNewRecords : ℕ → ℕ → List HistoryView → Type 0
-AreNewRecords number channels [] = Unit {0}
-AreNewRecords number channels (one ∷ ones) =
-    (one.sitting ≡ untouched number) × (one.channels ≡ channels) × AreNewRecords (suc number) channels ones
+-- these are the histories of new seats of a table with this number of channels, numbered from this one on
+abbrev pub AreNewHistories : ℕ → ℕ → List HistoryView → Type 0
+AreNewHistories number channels [] = Unit {0}
+AreNewHistories number channels (one ∷ ones) =
+    (one.sitting ≡ untouched number) × (one.channels ≡ channels) × AreNewHistories (suc number) channels ones
 
 -- what was seen of each log begins with what had been seen of it
 abbrev pub SeesMore : Logs → Logs → Type 0

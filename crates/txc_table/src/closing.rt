@@ -3,7 +3,7 @@ ghost use Rattle.std.specs.Prelude.{◌≡◌, ◌≤◌, [], List, IfOk, IfErr,
 ghost use Rattle.txc_chan.specs.declared.account.Account.{Account};
 ghost use Rattle.txc_table_lines.specs.Accounted.{AreAccounts};
 ghost use Rattle.txc_table_lines.specs.Locked.{AreClean, AreWhole, books_in, books_of, helds_of, lines_of};
-ghost use Rattle.txc_table.specs.Closing.{AreNone, CanClose, IsDraft, IsStanding, IsStandingInSummary, receipts_of};
+ghost use Rattle.txc_table.specs.Closing.{AreBuffers, AreNone, CanClose, IsStanding, IsStandingInSummary, receipts_of};
 ghost use Rattle.txc_table.specs.Table.{line_decls};
 
 use crate::gathered::gather;
@@ -17,113 +17,113 @@ use txc_table_lines::{CollectedShares, LockedLines};
 use txc_table_seat::{History, Receipts};
 use txc_txn::{Receipt, Report};
 
-/// The preparation of a report: the accounts of the channels without their logs, shares to which those of the seats are
-/// added, and room for the seats' records and for their receipts.
+/// The buffers of a report: the accounts of the channels without their logs, shares to which those of the seats are
+/// added, and empty lists with room for the seats' histories and for their receipts.
 #[derive(Drop)]
-pub(crate) struct Draft {
+pub(crate) struct ReportBuffers {
     pub(crate) accounts: Vec<Account>,
     pub(crate) shares: CollectedShares,
-    pub(crate) done: Vec<History>,
+    pub(crate) histories: Vec<History>,
     pub(crate) receipts: Vec<List<Receipt>>,
 }
 
-/// Prepares a draft for these channels and these seats, so that the rest cannot fail. Returns `None` if
+/// Makes the buffers of a report of these channels and these seats, so that the rest cannot fail. Returns `None` if
 /// allocation fails. Allocates.
-pub(crate) fn draft_for(
+pub(crate) fn buffers_for(
     locked: &mut LockedLines<FullLog>,
     alloc: Global,
     members: &Members,
-) -> Option<Draft>
+) -> Option<ReportBuffers>
     requires clean { AreClean (helds_of locked.old) }
-    ensures draft { IfSome result (IsDraft locked.old members.now.seats) }
+    ensures buffers { IfSome result (AreBuffers locked.old members.now.seats) }
     ensures same { locked.new ≡ locked.old }
 {
-    let mut done = Vec::new(alloc);
+    let mut histories = Vec::new(alloc);
     let mut receipts = Vec::new(alloc);
     let seats = usize::from(members.count());
-    if done.reserve(seats).is_err() || receipts.reserve(seats).is_err() {
+    if histories.reserve(seats).is_err() || receipts.reserve(seats).is_err() {
         return None;
     }
     let Ok(shares) = locked.no_shares(alloc) else {
         return None;
     };
     match locked.accounts_without_logs(alloc) {
-        Ok(accounts) => Some(Draft {
+        Ok(accounts) => Some(ReportBuffers {
             accounts,
             shares,
-            done,
+            histories,
             receipts,
         }),
         Err(_) => None,
     }
 }
 
-/// Moves the records of all these seats into a list that has room for them. Together with any accounts of the channels
-/// they are a report. Returns the seats' joined shares.
+/// Moves the histories of all these seats into a list that has room for them. With any accounts of the channels their
+/// receipts are a report. Returns the seats' joined shares.
 fn close<K: Log, S: Receipts>(
     locked: &mut LockedLines<K>,
     left: Vec<LeftSeat<K, S>>,
     members: &Members,
     none: CollectedShares,
-    done: &mut Vec<History<S>>,
+    histories: &mut Vec<History<S>>,
 ) -> CollectedShares
     requires can { CanClose locked.old members.now left.items }
     requires nothing { AreNone locked.old none }
-    requires none { done.old.items ≡ [] }
-    requires room { members.now.seats ≤ vec_capacity done.old }
+    requires none { histories.old.items ≡ [] }
+    requires room { members.now.seats ≤ vec_capacity histories.old }
     ensures same { locked.new ≡ locked.old }
-    ensures many { vec_len done.new ≡ members.now.seats }
+    ensures many { vec_len histories.new ≡ members.now.seats }
     ensures books { books_in result ≡ books_of (lines_of locked.old) }
     ensures whole { AreWhole result }
     ensures report { (accounts : List Account)
         → AreAccounts (line_decls (lines_of locked.old)) (helds_of locked.old) (length locked.old) accounts
         → IsStanding (lines_of locked.old) members.now.seats left.items
-        (record { accounts = accounts; receipts = receipts_of done.new.items }) }
+        (record { accounts = accounts; receipts = receipts_of histories.new.items }) }
 {
     locked.show_marks();
-    let mut all = gather(left, members, locked, none, done);
+    let mut all = gather(left, members, locked, none, histories);
     locked.show_whole(&mut all);
     all
 }
 
-/// Moves the receipts of these records into a list that has room for them.
-fn write_out(done: Vec<History>, receipts: Vec<List<Receipt>>) -> Vec<List<Receipt>>
+/// Moves the receipts of these histories into a list that has room for them.
+fn write_out(histories: Vec<History>, receipts: Vec<List<Receipt>>) -> Vec<List<Receipt>>
     requires none { receipts.items ≡ [] }
-    requires room { vec_len done ≤ vec_capacity receipts }
-    ensures { result.items ≡ receipts_of done.items }
+    requires room { vec_len histories ≤ vec_capacity receipts }
+    ensures { result.items ≡ receipts_of histories.items }
 {
     let mut receipts = receipts;
-    for one in done {
+    for one in histories {
         receipts.push_reserved(List::from_vec(one.into_receipts()));
     }
     receipts
 }
 
-/// Makes the report of a table whose seats are all in `left`, from this draft. The logs of the channels move to their
-/// accounts and are not copied.
+/// Makes the report of a table whose seats are all in `left`, from these buffers. The logs of the channels move to
+/// their accounts and are not copied.
 pub(crate) fn report<R: Wait>(
     rt: &R,
     locked: LockedLines<FullLog>,
     members: &Members,
     left: Vec<LeftSeat>,
-    draft: Draft,
+    buffers: ReportBuffers,
 ) -> Report
     requires can { CanClose locked members.now left.items }
-    requires draft { IsDraft locked members.now.seats draft }
+    requires buffers { AreBuffers locked members.now.seats buffers }
     ensures standing { IsStanding (lines_of locked) members.now.seats left.items result }
     ensures accounts { AreAccounts (line_decls (lines_of locked)) (helds_of locked) (length locked) result.accounts }
 {
-    let Draft {
+    let ReportBuffers {
         accounts,
         shares,
-        mut done,
+        mut histories,
         receipts,
-    } = draft;
+    } = buffers;
     let mut locked = locked;
-    let all = close(&mut locked, left, members, shares, &mut done);
+    let all = close(&mut locked, left, members, shares, &mut histories);
     Report {
         accounts: List::from_vec(locked.into_logs(rt, accounts, all)),
-        receipts: List::from_vec(write_out(done, receipts)),
+        receipts: List::from_vec(write_out(histories, receipts)),
     }
 }
 
@@ -141,8 +141,8 @@ pub(crate) fn report_in_summary<K: Log, S: Receipts>(
     ensures err { IfErr result (λ back. back ≡ left) }
     ensures same { locked.new ≡ locked.old }
 {
-    let mut done = Vec::new(alloc);
-    if done.reserve(usize::from(members.count())).is_err() {
+    let mut histories = Vec::new(alloc);
+    if histories.reserve(usize::from(members.count())).is_err() {
         return Err(left);
     }
     let Ok(shares) = locked.no_shares(alloc) else {
@@ -150,7 +150,7 @@ pub(crate) fn report_in_summary<K: Log, S: Receipts>(
     };
     match locked.summaries(alloc) {
         Ok(summaries) => {
-            drop(close(locked, left, members, shares, &mut done));
+            drop(close(locked, left, members, shares, &mut histories));
             Ok(summaries)
         }
         Err(_) => Err(left),

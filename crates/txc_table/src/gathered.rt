@@ -72,25 +72,25 @@ fn no_part<K: Log, S: Receipts>(left: &mut Vec<LeftSeat<K, S>>) -> Share
     left[0].member.empty()
 }
 
-/// Moves the records of all seats, ordered by number, into a list that has room for them, and returns the seats' joined
-/// shares.
+/// Moves the histories of all seats, ordered by number, into a list that has room for them, and returns the seats'
+/// joined shares.
 pub(crate) fn gather<K: Log, S: Receipts>(
     left: Vec<LeftSeat<K, S>>,
     members: &Members,
     locked: &mut LockedLines<K>,
     none: CollectedShares,
-    done: &mut Vec<History<S>>,
+    histories: &mut Vec<History<S>>,
 ) -> CollectedShares
     requires can { CanClose locked.old members.now left.items }
     requires nothing { AreNone locked.old none }
-    requires none { done.old.items ≡ [] }
-    requires room { members.now.seats ≤ vec_capacity done.old }
-    ensures all { AreOfAll locked.old (sittings_of left.items) members.now.seats (plans_of done.new.items)
-        (receipts_of done.new.items) }
+    requires none { histories.old.items ≡ [] }
+    requires room { members.now.seats ≤ vec_capacity histories.old }
+    ensures all { AreOfAll locked.old (sittings_of left.items) members.now.seats (plans_of histories.new.items)
+        (receipts_of histories.new.items) }
     ensures books { books_in result ≡ books_of (lines_of locked.old) }
     ensures parts { HaveParts members.now.seats result }
-    ensures amounts { amounts_in result ≡ totals_from 0 (length locked.old) (receipts_of done.new.items) }
-    ensures made { made_in result ≡ all_uses_from 0 (length locked.old) (plans_of done.new.items) }
+    ensures amounts { amounts_in result ≡ totals_from 0 (length locked.old) (receipts_of histories.new.items) }
+    ensures made { made_in result ≡ all_uses_from 0 (length locked.old) (plans_of histories.new.items) }
     ensures same { locked.new ≡ locked.old }
 {
     let mut left = left;
@@ -106,7 +106,7 @@ pub(crate) fn gather<K: Log, S: Receipts>(
         all.gain(shares);
         parts.merge(member);
         history.show();
-        done.push_reserved(history);
+        histories.push_reserved(history);
     }
     if let Some(seat) = left.pop() {
         // The table's own book has no part for it.

@@ -3,7 +3,7 @@ ghost use Rattle.std.specs.Prelude.{◌≡◌, ◌≤◌, [], All, length, map, 
 ghost use Rattle.std.specs.Prelude.{vec_capacity, IfOk};
 ghost use Rattle.txc_chan.specs.Logged.{opened};
 ghost use Rattle.txc_table_lines.specs.Lines.{fresh_share};
-ghost use Rattle.txc_table.specs.Seat.{AreNewRecords, new_seats};
+ghost use Rattle.txc_table.specs.Seat.{AreNewHistories, new_seats};
 ghost use Rattle.txc_table.specs.Table.{shelved_for, table_lines};
 
 use crate::members::Members;
@@ -67,7 +67,7 @@ pub(crate) fn make_histories<S: Receipts>(
     seats: u16,
 ) -> Result<Vec<History<S>>, AllocError>
     ensures many { IfOk result (λ made. length made.items ≡ seats) }
-    ensures new { IfOk result (λ made. AreNewRecords 0 channels made.items) }
+    ensures new { IfOk result (λ made. AreNewHistories 0 channels made.items) }
 {
     let mut made = Vec::new(alloc);
     for number in 0..seats {
@@ -97,7 +97,7 @@ pub(crate) fn make_seats<K: Log, S: Receipts>(
     room: Vec<Seat<K, S>>,
     shares: Vec<SeatShares<K>>,
 ) -> (Members, Vec<Seat<K, S>>)
-    requires new { AreNewRecords 0 (length lines.now) histories.items }
+    requires new { AreNewHistories 0 (length lines.now) histories.items }
     requires few { length histories.items ≤ u16.MAX }
     requires empty { room.items ≡ [] }
     requires room { length histories.items ≤ vec_capacity room }

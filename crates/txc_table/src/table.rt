@@ -31,6 +31,9 @@ pub use idle::IdleTable;
 
 /// A table of channels, each under a lock of its own, and of a number of seats. It keeps its logs whole (`FullLog`), or
 /// only the part of them that can still be undone (`GhostLog`).
+///
+/// Contracts see its lines, the channels as they were made (`made`, which `look` and `same` read), their kinds, and the
+/// number of its seats. None of these changes.
 #[derive(Drop)]
 pub struct Table<K: Log = FullLog> {
     lines: Lines<K>,
@@ -120,9 +123,10 @@ impl<K: Log> Table<K> {
         self.members.count()
     }
 
-    /// Returns what is at a slot of a channel. What is at a slot never changes. Returns `None` if the channel is not
-    /// declared or is a queue, or if the slot is still empty. Always returns `None` on a table whose logs are
-    /// `GhostLog`, which has no slots. Takes no lock.
+    /// Returns the item at a slot of a broadcast channel's shelf. The shelf has each written item, also those of a
+    /// transaction that has not committed or was rolled back, at a slot that never changes. Returns `None` if the table
+    /// has no such channel, if the channel is a queue, or if the slot is still empty. Always returns `None` on a table
+    /// whose logs are `GhostLog`, which has no shelves. Takes no lock.
     pub fn look(&self, chan: u16, slot: usize) -> Option<Sight>
         ensures own { IfSome result (λ sight. IsSeen self.now.made chan sight) }
         ensures slot { IfSome result (λ sight. sight.slot ≡ slot) }

@@ -18,8 +18,8 @@ use txc_chan::GhostList;
 use txc_txn::Receipt;
 use txc_txn_check::Checked;
 
-/// The number of unused tallies after those of a seat. They take more than a cache line, so a commit of one seat writes
-/// to no cache line that another seat reads.
+/// The number of unused tallies after those of a seat. They take more than a cache line, so the tallies of two seats
+/// share none.
 const UNUSED: usize = 3;
 
 /// What a seat has committed: its number, the receipts of its committed transactions, the stamp of the last one, and

@@ -5,12 +5,12 @@ use std::alloc::Global;
 use txc_txn::Receipt;
 
 /// A receipt with unused bytes after it. The boxes of two seats can be next to each other in memory. With the unused
-/// bytes, a commit of one seat writes to no cache line that another seat reads.
+/// bytes, the receipts in them share no cache line.
 #[derive(Drop)]
 pub struct PaddedReceipt {
     /// The receipt.
     pub receipt: Receipt,
-    // No other data is on the last cache line.
+    // As long as a cache line.
     after: [u64; 8],
 }
 

@@ -173,10 +173,11 @@ impl WaitQueue {
         was_notified
     }
 
-    /// Blocks until this seat is notified, or until the time `until`. Returns whether the seat was notified since it
-    /// registered, at once if it was. Until the time has passed, the seat counts as running, because it proceeds by
-    /// itself: no seat stalls, and this seat never does. The seat does not wait if the time has already passed or the
-    /// clock cannot be read, and returns `false` at once if the wait queue has no such seat.
+    /// Blocks until this seat is notified, or until the time `until`. Returns `true` as soon as the seat has been
+    /// notified since it registered, and `false` if the time passes first. Until the time has passed, the seat counts
+    /// as running, because it proceeds by itself: no seat stalls, and this seat never does. The seat does not wait if
+    /// the time has already passed or the clock cannot be read, and returns `false` at once if the wait queue has no
+    /// such seat.
     pub fn wait_until<R: Wait + Clock>(&self, rt: &R, seat: u16, until: Instant) -> bool
         ensures { self.now.seats ≤ seat → result ≡ false }
     {

@@ -38,8 +38,8 @@ impl Model for Checked {
 impl Checked {
     /// Checks steps against the limits and against the kinds of the channels, which are in the order of their numbers.
     /// Returns the steps with the numbers of their channels. Fails with the first fault in the order of the steps and
-    /// drops the steps. An alternative is checked for `TooDeep`, then its branches are checked in order. An operation
-    /// is checked for `TooLong`, `NoChannel`, `NotForKind`, `NoReader` and `TooManyChannels`, in this order.
+    /// drops the steps. An `Or` is checked for `TooDeep`, then its branches are checked in order. An operation is
+    /// checked for `TooLong`, `NoChannel`, `NotForKind`, `NoReader` and `TooManyChannels`, in this order.
     pub fn check(steps: Vec<Step>, kinds: &[Kind]) -> Result<Checked, TxnFault>
         ensures ok { IfOk result (λ checked. walk (slice_get kinds.now) steps.items
             ≡ Fine (record { operations = operations_in steps.items; channels = checked.declared })) }

@@ -9,7 +9,8 @@ pub enum Step {
     Do(Op),
     /// Runs the first of these branches that doesn't retry. Each branch begins in the state before this step.
     Or(List<List<Step>>),
-    /// Retries the innermost branch that contains this step. Outside of all branches it retries the transaction.
+    /// Retries: the innermost branch that contains it is undone, and the next one is tried. After the last branch the
+    /// step with the branches retries too. Outside of all branches the transaction must be retried.
     Retry,
 }
 

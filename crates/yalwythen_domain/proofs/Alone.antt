@@ -8,7 +8,7 @@ use Rattle.txc_txn_check.specs.declared.step.Step.TheVariants.{Do}
 use Rattle.txc_txn_check.specs.Walk.{Walked, Fine, Faulty, in_turn, nothing_seen, then_on, walk, walk_op}
 use Rattle.txc_txn_check.proofs.Walking.{walk_step-Do}
 use Rattle.txc_txn.specs.Maps.{Map}
-use Rattle.yalwythen_domain.specs.declared.channels.Halted.TheVariants.{Faulty as HaltedFaulty}
+use Rattle.yalwythen_domain.specs.declared.channels.RunError.TheVariants.{Faulty as HaltedFaulty}
 use Rattle.yalwythen_domain.specs.Ending.{ComesOfSteps}
 use Rattle.yalwythen_domain.specs.Opened.{untallied}
 

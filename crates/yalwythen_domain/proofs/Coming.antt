@@ -12,8 +12,8 @@ use Rattle.txc_txn.specs.Maps.{Map}
 use Rattle.txc_txn.specs.Plain.{chan_in}
 use Rattle.txc_txn.specs.Run.{RanSettled}
 use Rattle.txc_txn.specs.Transaction.{Ending, Kept as EndingKept, Again, Aborted, kept_tag, transaction}
-use Rattle.yalwythen_domain.specs.declared.channels.Halted.{Halted}
-use Rattle.yalwythen_domain.specs.declared.channels.Halted.TheVariants.{Faulty as HaltedFaulty, Stopped}
+use Rattle.yalwythen_domain.specs.declared.channels.RunError.{RunError}
+use Rattle.yalwythen_domain.specs.declared.channels.RunError.TheVariants.{Faulty as HaltedFaulty, Stopped}
 use Rattle.yalwythen_domain.specs.declared.orders.Order.{Order}
 use Rattle.yalwythen_domain.specs.declared.call_result.CallResult.{CallResult}
 use Rattle.yalwythen_domain.specs.Channels.{DomainChannels}
@@ -22,7 +22,7 @@ use Rattle.yalwythen_domain.specs.Written.{AreSteps}
 
 -- of steps in which a walk finds no fault comes what their transaction comes to
 pub comes : (kinds : List Kind) (kinds' : List Kind) (steps : List Step) (tally : Tally) (tag : Tag)
-    (result : Result Ran Halted) (before : Map) (before' : Map) (after : Map)
+    (result : Result Ran RunError) (before : Map) (before' : Map) (after : Map)
     → kinds ≡ kinds' → before ≡ before' → walk (slice_get kinds) steps ≡ Fine tally
     → ComesTo (transaction before tag tally.channels steps) (kept_tag before tag tally.channels) tally.channels result
     before after
@@ -33,7 +33,7 @@ comes kinds kinds' steps tally tag result before before' after same_kinds same f
     (subst (λ (m : Map). ComesOfSteps (Fine tally) tag steps result m after) same to)
 
 -- a seat had steps run, where its tag and the channels are those that are named
-pub ran_in_domain : (tag : Tag) (tag' : Tag) (orders : List Order) (steps : List Step) (came : Result Ran Halted)
+pub ran_in_domain : (tag : Tag) (tag' : Tag) (orders : List Order) (steps : List Step) (came : Result Ran RunError)
     (now : DomainChannels) (before : DomainChannels) (after : DomainChannels)
     (old : Receipt) (new : Receipt) (said : CallResult) → tag' ≡ tag → now ≡ before → AreSteps orders steps
     → ComesOfSteps (walk (slice_get now.kinds) steps) tag' steps came (chan_in now.held) (chan_in after.held)
@@ -53,15 +53,15 @@ ran_in_domain tag tag' orders steps came now before after old new said same_tag 
     }))
 
 -- what comes of steps comes of them also by other names of the kinds, the channels and the result
-pub comes_so : (kinds : List Kind) (kinds' : List Kind) (tag : Tag) (steps : List Step) (result : Result Ran Halted)
-    (result' : Result Ran Halted) (before : Map) (before' : Map) (after : Map) (after' : Map)
+pub comes_so : (kinds : List Kind) (kinds' : List Kind) (tag : Tag) (steps : List Step) (result : Result Ran RunError)
+    (result' : Result Ran RunError) (before : Map) (before' : Map) (after : Map) (after' : Map)
     → kinds ≡ kinds' → result ≡ result' → before ≡ before' → after ≡ after'
     → ComesOfSteps (walk (slice_get kinds) steps) tag steps result before after
     → ComesOfSteps (walk (slice_get kinds') steps) tag steps result' before' after'
 comes_so kinds kinds' tag steps result result' before before' after after' same_kinds same_result same_before same_after
     came =
     subst (λ (ks : List Kind). ComesOfSteps (walk (slice_get ks) steps) tag steps result' before' after') same_kinds
-    (subst (λ (r : Result Ran Halted). ComesOfSteps (walk (slice_get kinds) steps) tag steps r before' after')
+    (subst (λ (r : Result Ran RunError). ComesOfSteps (walk (slice_get kinds) steps) tag steps r before' after')
     same_result
     (subst (λ (m : Map). ComesOfSteps (walk (slice_get kinds) steps) tag steps result m after') same_before
     (subst (λ (m : Map). ComesOfSteps (walk (slice_get kinds) steps) tag steps result before m) same_after came)))
@@ -73,7 +73,7 @@ retried (Again why) tag declared cause before after ran = ran.1
 retried (Aborted stop) tag declared cause before after ran = absurd ran
 
 -- steps that were not kept leave the channels as they were
-pub as_before : (walked : Walked) (tag : Tag) (steps : List Step) (result : Result Ran Halted) (before after : Map)
+pub as_before : (walked : Walked) (tag : Tag) (steps : List Step) (result : Result Ran RunError) (before after : Map)
     → ComesOfSteps walked tag steps result before after → (said_of_came result).code ≢ 0 → after ≡ before
 as_before (Faulty fault) tag steps result before after came failed = came.1
 as_before (Fine tally) tag steps (Ok (Retry cause)) before after came failed =

@@ -10,11 +10,11 @@ use Rattle.txc_base.specs.declared.op.Op.{Op}
 use Rattle.txc_txn_check.specs.declared.step.Step.{Step, fold-roll-Step}
 use Rattle.txc_txn_check.specs.declared.step.Step.TheOpen as Open
 use Rattle.txc_txn_check.specs.declared.step.Step.TheVariants.{Do, Or, Retry, rolls-Do, rolls-Or, rolls-Retry}
-use Rattle.yalwythen_domain.specs.declared.orders.Fork.{Fork}
+use Rattle.yalwythen_domain.specs.declared.orders.Alternatives.{Alternatives}
 use Rattle.yalwythen_domain.specs.declared.orders.Order.{Order}
 use Rattle.yalwythen_domain.specs.Orders.{step_of, steps_with}
 use Rattle.yalwythen_domain.specs.Written.{Token, One, Begin, Next, End, all_of, branches_of, ended_branches}
-use Rattle.yalwythen_domain.specs.Written.{fork_tokens}
+use Rattle.yalwythen_domain.specs.Written.{alternatives_tokens}
 use Rattle.yalwythen_domain.specs.Written.{more_branches, one_of, read_so_far, token_layer, token_of, tokens_in}
 use Rattle.yalwythen_domain.specs.Written.{tokens_of}
 
@@ -43,30 +43,32 @@ pub tokens_in_append : (xs ys : List Step) → tokens_in (xs ++ ys) ≡ tokens_i
 tokens_in_append xs ys = ap all_of (map-append tokens_of xs ys) ∙ all_of_append (map tokens_of xs) (map tokens_of ys)
 
 -- one step more
-pub one_step_more : (forks : List Fork) (steps : List Step) (step : Step)
-    → read_so_far forks (steps ++ step ∷ []) ≡ read_so_far forks steps ++ tokens_of step
-one_step_more forks steps step =
-    ap (λ rest. all_of (map fork_tokens forks) ++ rest)
+pub one_step_more : (nested : List Alternatives) (steps : List Step) (step : Step)
+    → read_so_far nested (steps ++ step ∷ []) ≡ read_so_far nested steps ++ tokens_of step
+one_step_more nested steps step =
+    ap (λ rest. all_of (map alternatives_tokens nested) ++ rest)
     (tokens_in_append steps (step ∷ []) ∙ ap (λ rest. tokens_in steps ++ rest) (append-nil (tokens_of step)))
-    ∙ sym (append_assoc (all_of (map fork_tokens forks)) (tokens_in steps) (tokens_of step))
+    ∙ sym (append_assoc (all_of (map alternatives_tokens nested)) (tokens_in steps) (tokens_of step))
 
 -- the innermost alternatives are behind the others
-read_with : (forks : List Fork) (fork : Fork) (steps : List Step) → read_so_far (forks ++ fork ∷ []) steps
-    ≡ all_of (map fork_tokens forks) ++ (fork_tokens fork ++ tokens_in steps)
-read_with forks fork steps =
-    let all = all_of (map fork_tokens forks) in
-    ap (λ read. read ++ tokens_in steps) (ap all_of (map-append fork_tokens forks (fork ∷ []))
-    ∙ all_of_append (map fork_tokens forks) (fork_tokens fork ∷ [])
-    ∙ ap (λ rest. all ++ rest) (append-nil (fork_tokens fork)))
-    ∙ append_assoc all (fork_tokens fork) (tokens_in steps)
+read_with : (nested : List Alternatives) (last : Alternatives) (steps : List Step)
+    → read_so_far (nested ++ last ∷ []) steps
+    ≡ all_of (map alternatives_tokens nested) ++ (alternatives_tokens last ++ tokens_in steps)
+read_with nested last steps =
+    let all = all_of (map alternatives_tokens nested) in
+    ap (λ read. read ++ tokens_in steps) (ap all_of (map-append alternatives_tokens nested (last ∷ []))
+    ∙ all_of_append (map alternatives_tokens nested) (alternatives_tokens last ∷ [])
+    ∙ ap (λ rest. all ++ rest) (append-nil (alternatives_tokens last)))
+    ∙ append_assoc all (alternatives_tokens last) (tokens_in steps)
 
 -- alternatives begin
-pub alternatives_begin : (forks : List Fork) (fork : Fork) (steps : List Step) → fork.before.items ≡ steps
-    → fork.branches.items ≡ [] → read_so_far (forks ++ fork ∷ []) [] ≡ read_so_far forks steps ++ Begin ∷ []
-alternatives_begin forks fork steps before none =
-    let all = all_of (map fork_tokens forks) in
-    read_with forks fork [] ∙ ap (λ rest. all ++ rest) (append-nil (fork_tokens fork)
-    ∙ ap (λ xs. tokens_in xs ++ (Begin ∷ ended_branches fork.branches.items)) before
+pub alternatives_begin : (nested : List Alternatives) (last : Alternatives) (steps : List Step)
+    → last.before.items ≡ steps → last.branches.items ≡ []
+    → read_so_far (nested ++ last ∷ []) [] ≡ read_so_far nested steps ++ Begin ∷ []
+alternatives_begin nested last steps before none =
+    let all = all_of (map alternatives_tokens nested) in
+    read_with nested last [] ∙ ap (λ rest. all ++ rest) (append-nil (alternatives_tokens last)
+    ∙ ap (λ xs. tokens_in xs ++ (Begin ∷ ended_branches last.branches.items)) before
     ∙ ap (λ bs. tokens_in steps ++ (Begin ∷ ended_branches bs)) none)
     ∙ sym (append_assoc all (tokens_in steps) (Begin ∷ []))
 
@@ -86,18 +88,19 @@ from_the_back all before begun last token =
     ∙ sym (append_assoc all ((before ++ begun) ++ last) (token ∷ []))
 
 -- a branch ends, and the next one begins
-pub branch_ends : (forks : List Fork) (fork ended : Fork) (steps : List Step) → ended.before.items ≡ fork.before.items
-    → ended.branches.items ≡ fork.branches.items ++ steps ∷ []
-    → read_so_far (forks ++ ended ∷ []) [] ≡ read_so_far (forks ++ fork ∷ []) steps ++ Next ∷ []
-branch_ends forks fork ended steps before branches =
-    let all = all_of (map fork_tokens forks) in let first = tokens_in fork.before.items in
-    let begun = Begin ∷ ended_branches fork.branches.items in
-    read_with forks ended [] ∙ ap (λ rest. all ++ rest) (append-nil (fork_tokens ended)
+pub branch_ends : (nested : List Alternatives) (last ended : Alternatives) (steps : List Step)
+    → ended.before.items ≡ last.before.items
+    → ended.branches.items ≡ last.branches.items ++ steps ∷ []
+    → read_so_far (nested ++ ended ∷ []) [] ≡ read_so_far (nested ++ last ∷ []) steps ++ Next ∷ []
+branch_ends nested last ended steps before branches =
+    let all = all_of (map alternatives_tokens nested) in let first = tokens_in last.before.items in
+    let begun = Begin ∷ ended_branches last.branches.items in
+    read_with nested ended [] ∙ ap (λ rest. all ++ rest) (append-nil (alternatives_tokens ended)
     ∙ ap (λ xs. tokens_in xs ++ (Begin ∷ ended_branches ended.branches.items)) before
     ∙ ap (λ bs. first ++ (Begin ∷ ended_branches bs)) branches
-    ∙ ap (λ rest. first ++ (Begin ∷ rest)) (ended_append fork.branches.items steps))
+    ∙ ap (λ rest. first ++ (Begin ∷ rest)) (ended_append last.branches.items steps))
     ∙ from_the_back all first begun (tokens_in steps) Next
-    ∙ ap (λ read. read ++ Next ∷ []) (sym (read_with forks fork steps))
+    ∙ ap (λ read. read ++ Next ∷ []) (sym (read_with nested last steps))
 
 more_append : (branches : List (List Step)) (last : List Step) → more_branches (map tokens_in (branches ++ last ∷ []))
     ≡ Next ∷ (ended_branches branches ++ tokens_in last)
@@ -113,20 +116,20 @@ all_branches (first ∷ branches) last = ap (λ rest. tokens_in first ++ rest) (
     ∙ sym (append_assoc (tokens_in first) (Next ∷ ended_branches branches) (tokens_in last))
 
 -- alternatives end, as a step
-pub alternatives_end : (forks : List Fork) (fork : Fork) (branches : List (List Step)) (steps : List Step)
-    → branches ≡ fork.branches.items ++ steps ∷ []
-    → read_so_far forks (fork.before.items ++ Or branches ∷ [])
-    ≡ read_so_far (forks ++ fork ∷ []) steps ++ End ∷ []
-alternatives_end forks fork branches steps same =
-    let all = all_of (map fork_tokens forks) in let first = tokens_in fork.before.items in
-    let begun = Begin ∷ ended_branches fork.branches.items in
-    ap (λ rest. all ++ rest) (tokens_in_append fork.before.items (Or branches ∷ [])
+pub alternatives_end : (nested : List Alternatives) (last : Alternatives) (branches : List (List Step))
+    (steps : List Step) → branches ≡ last.branches.items ++ steps ∷ []
+    → read_so_far nested (last.before.items ++ Or branches ∷ [])
+    ≡ read_so_far (nested ++ last ∷ []) steps ++ End ∷ []
+alternatives_end nested last branches steps same =
+    let all = all_of (map alternatives_tokens nested) in let first = tokens_in last.before.items in
+    let begun = Begin ∷ ended_branches last.branches.items in
+    ap (λ rest. all ++ rest) (tokens_in_append last.before.items (Or branches ∷ [])
     ∙ ap (λ rest. first ++ rest) (append-nil (tokens_of (Or branches)) ∙ tokens_of-Or branches
     ∙ ap (λ bs. Begin ∷ (branches_of (map tokens_in bs) ++ End ∷ [])) same
-    ∙ ap (λ rest. Begin ∷ (rest ++ End ∷ [])) (all_branches fork.branches.items steps)
+    ∙ ap (λ rest. Begin ∷ (rest ++ End ∷ [])) (all_branches last.branches.items steps)
     ∙ append_assoc begun (tokens_in steps) (End ∷ [])))
     ∙ from_the_back all first begun (tokens_in steps) End
-    ∙ ap (λ read. read ++ End ∷ []) (sym (read_with forks fork steps))
+    ∙ ap (λ read. read ++ End ∷ []) (sym (read_with nested last steps))
 
 abbrev value_or : Step → Option Step → Step
 value_or other (Some step) = step

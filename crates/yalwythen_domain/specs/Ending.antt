@@ -16,22 +16,22 @@ use Rattle.txc_txn.specs.Maps.{Map}
 use Rattle.txc_txn.specs.Plain.{chan_in}
 use Rattle.txc_txn.specs.Run.{RanSettled}
 use Rattle.txc_txn.specs.Transaction.{Ending, Aborted, kept_tag, transaction}
-use Rattle.yalwythen_domain.specs.declared.channels.Halted.{Halted}
-use Rattle.yalwythen_domain.specs.declared.channels.Halted.TheVariants.{Faulty as HaltedFaulty, Stopped}
+use Rattle.yalwythen_domain.specs.declared.channels.RunError.{RunError}
+use Rattle.yalwythen_domain.specs.declared.channels.RunError.TheVariants.{Faulty as HaltedFaulty, Stopped}
 use Rattle.yalwythen_domain.specs.Channels.{DomainChannels}
 use Rattle.yalwythen_domain.specs.declared.orders.Order.{Order}
 use Rattle.yalwythen_domain.specs.declared.call_result.CallResult.{CallResult}
 use Rattle.yalwythen_domain.specs.Written.{AreSteps}
 
 -- a transaction ended so, and is settled if it commits; a stop is its own or `NoMemory`, and changes nothing
-abbrev pub ComesTo : Ending → Tag → List ℕ → Result Ran Halted → Map → Map → Type 0
+abbrev pub ComesTo : Ending → Tag → List ℕ → Result Ran RunError → Map → Map → Type 0
 ComesTo outcome tag declared (Ok ran) before after = RanSettled tag declared outcome ran before after
 ComesTo outcome tag declared (Err (Stopped stop)) before after
     = (stop ≢ NoMemory → outcome ≡ Aborted stop) × (after ≡ before)
 ComesTo outcome tag declared (Err (HaltedFaulty fault)) before after = ⊥
 
 -- steps ended with their first fault and changed nothing, or ended as their transaction does
-abbrev pub ComesOfSteps : Walked → Tag → List Step → Result Ran Halted → Map → Map → Type 0
+abbrev pub ComesOfSteps : Walked → Tag → List Step → Result Ran RunError → Map → Map → Type 0
 ComesOfSteps (Faulty fault) tag steps result before after = (result ≡ Err (HaltedFaulty fault)) × (after ≡ before)
 ComesOfSteps (Fine tally) tag steps result before after = ComesTo (transaction before tag tally.channels steps)
     (kept_tag before tag tally.channels) tally.channels result before after
@@ -48,7 +48,7 @@ said_of_ran (Kept receipt) = record { code = 0; value = length receipt.replies }
 said_of_ran (Retry cause) = record { code = 1; value = cause_code cause }
 
 -- the result of steps that ended so
-abbrev pub said_of_came : Result Ran Halted → CallResult
+abbrev pub said_of_came : Result Ran RunError → CallResult
 said_of_came (Ok ran) = said_of_ran ran
 said_of_came (Err (Stopped stop)) = record { code = 2; value = stop_code stop }
 said_of_came (Err (HaltedFaulty fault)) = record { code = 3; value = txn_fault_code fault }
@@ -73,15 +73,15 @@ clock_after (Kept receipt) clock = max clock receipt.tag.stamp
 clock_after (Retry cause) clock = clock
 
 -- the last receipt after steps that ended so
-abbrev pub last_after_came : Result Ran Halted → Receipt → Receipt
+abbrev pub last_after_came : Result Ran RunError → Receipt → Receipt
 last_after_came (Ok ran) last = last_after ran last
-last_after_came (Err halted) last = last
+last_after_came (Err error) last = last
 
 -- a seat with this tag ran the steps of these orders: how they ended, the result, and the last receipt
 pub record RanInDomain (tag : Tag) (orders : List Order) (before : DomainChannels) (after : DomainChannels)
     (old : Receipt) (new : Receipt) (said : CallResult) : Type 0 where
   pub steps : List Step
-  pub came : Result Ran Halted
+  pub came : Result Ran RunError
   pub are : AreSteps orders steps
   pub comes : ComesOfSteps (walk (slice_get before.kinds) steps) tag steps came
       (chan_in before.held) (chan_in after.held)

@@ -17,8 +17,8 @@ use Rattle.txc_txn.specs.OpenTransaction.{IsMarkedSince}
 use Rattle.txc_txn.specs.Plain.{chan_in}
 use Rattle.txc_txn.specs.Run.{ending_of, state_of}
 use Rattle.txc_txn.specs.Transaction.{Aborted, Kept, op_in, start, steps_in}
-use Rattle.yalwythen_domain.specs.declared.channels.Halted.{Halted}
-use Rattle.yalwythen_domain.specs.declared.channels.Halted.TheVariants.{Faulty as HaltedFaulty, Stopped}
+use Rattle.yalwythen_domain.specs.declared.channels.RunError.{RunError}
+use Rattle.yalwythen_domain.specs.declared.channels.RunError.TheVariants.{Faulty as HaltedFaulty, Stopped}
 use Rattle.yalwythen_domain.specs.Channels.{DomainChannels}
 
 -- the invariant: channels have these kinds, and the open transaction has touched existing channels, each with a mark
@@ -38,7 +38,7 @@ abbrev pub untallied : Tally
 untallied = record { operations = 0; channels = [] }
 
 -- an operation of the open transaction ended as `op_in` defines it, or has a fault and did nothing
-abbrev pub HasApplied : Op → Result Flow Halted → DomainChannels → DomainChannels → Type 0
+abbrev pub HasApplied : Op → Result Flow RunError → DomainChannels → DomainChannels → Type 0
 HasApplied op (Ok flow) before after = op_in before.txn.tag op (state_of (chan_in before.held) before.txn.path)
     ≡ ending_of flow (state_of (chan_in after.held) after.txn.path)
 HasApplied op (Err (Stopped stop)) before after = stop ≢ NoMemory
@@ -46,7 +46,7 @@ HasApplied op (Err (Stopped stop)) before after = stop ≢ NoMemory
 HasApplied op (Err (HaltedFaulty fault)) before after = after ≡ before
 
 -- a fact of the fault, if that is why nothing was done
-abbrev pub IfFaulty : Halted → (TxnFault → Type 0) → Type 0
+abbrev pub IfFaulty : RunError → (TxnFault → Type 0) → Type 0
 IfFaulty (HaltedFaulty fault) fact = fact fault
 IfFaulty (Stopped stop) fact = Unit {0}
 

@@ -19,8 +19,8 @@ use Rattle.txc_txn.specs.Maps.{Map, settle_all}
 use Rattle.txc_txn.specs.OpenTransaction.{IsMarkedSince}
 use Rattle.txc_txn.specs.Plain.{chan_in}
 use Rattle.txc_txn.specs.Run.{receipt_of, state_of}
-use Rattle.yalwythen_domain.specs.declared.channels.Halted.{Halted}
-use Rattle.yalwythen_domain.specs.declared.channels.Halted.TheVariants.{Faulty, Stopped}
+use Rattle.yalwythen_domain.specs.declared.channels.RunError.{RunError}
+use Rattle.yalwythen_domain.specs.declared.channels.RunError.TheVariants.{Faulty, Stopped}
 use Rattle.yalwythen_domain.specs.declared.domain.Phase.{Phase}
 use Rattle.yalwythen_domain.specs.declared.domain.Phase.TheVariants.{Closed, Open, Failed}
 use Rattle.yalwythen_domain.specs.declared.orders.Order.{Order}
@@ -87,13 +87,13 @@ last_said (Some reply) = record { code = 16 + (said_of reply).code; value = (sai
 last_said None = record { code = 64; value = 0 }
 
 -- the result of an operation of the open transaction, whose replies are then these
-abbrev pub said_of_operation : Result Flow Halted → List Reply → CallResult
+abbrev pub said_of_operation : Result Flow RunError → List Reply → CallResult
 said_of_operation (Ok Done) replies = last_said (last_reply replies)
 said_of_operation (Ok (Again cause)) replies = record { code = 1; value = cause_code cause }
-said_of_operation (Err halted) replies = said_of_came (Err halted)
+said_of_operation (Err error) replies = said_of_came (Err error)
 
 -- whether the transaction goes on after an operation: after a retry or a stop it must be rolled back
-abbrev pub phase_after : Result Flow Halted → Phase
+abbrev pub phase_after : Result Flow RunError → Phase
 phase_after (Ok Done) = Open
 phase_after (Ok (Again cause)) = Failed
 phase_after (Err (Faulty fault)) = Open
@@ -101,9 +101,9 @@ phase_after (Err (Stopped stop)) = Failed
 
 -- an operation of the open transaction ran by its definition, or has the first fault of a walk and did nothing
 pub record HasRunOperation (op : Op) (old : DomainState) (new : DomainState) (said : CallResult) : Type 0 where
-  pub result : Result Flow Halted
+  pub result : Result Flow RunError
   pub applied : HasApplied op result old.channels new.channels
-  pub faulty : IfErr result (λ halted. IfFaulty halted (λ fault.
+  pub faulty : IfErr result (λ error. IfFaulty error (λ fault.
       walk_op (slice_get old.channels.kinds) op untallied ≡ WalkFaulty fault))
   pub answered : said.code ≢ 5 → said ≡ said_of_operation result new.channels.txn.path.replies.items
   pub memory : said.code ≡ 5 → result ≡ Err (Stopped NoMemory)

@@ -3,7 +3,7 @@ use Rattle.std.specs.Prelude.{◌≡◌, nat_eq, Option, Some, None, List, [], �
 use Rattle.txc_txn_check.specs.declared.step.Step.{Step, Step-F, fold-Step}
 use Rattle.txc_txn_check.specs.declared.step.Step.TheOpen as Open
 use Rattle.txc_txn_check.specs.declared.step.Step.TheVariants.{Do, Retry}
-use Rattle.yalwythen_domain.specs.declared.orders.Fork.{Fork}
+use Rattle.yalwythen_domain.specs.declared.orders.Alternatives.{Alternatives}
 use Rattle.yalwythen_domain.specs.declared.orders.Order.{Order}
 use Rattle.yalwythen_domain.specs.Orders.{step_of}
 
@@ -63,9 +63,10 @@ ended_branches [] = []
 ended_branches (branch ∷ branches) = tokens_in branch ++ (Next ∷ ended_branches branches)
 
 -- alternatives that have not ended, with the steps before them
-abbrev pub fork_tokens : Fork → List Token
-fork_tokens fork = tokens_in fork.before.items ++ (Begin ∷ ended_branches fork.branches.items)
+abbrev pub alternatives_tokens : Alternatives → List Token
+alternatives_tokens alternatives =
+    tokens_in alternatives.before.items ++ (Begin ∷ ended_branches alternatives.branches.items)
 
 -- what was read so far: these alternatives, which have not ended, and these steps of the innermost branch
-abbrev pub read_so_far : List Fork → List Step → List Token
-read_so_far forks steps = all_of (map fork_tokens forks) ++ tokens_in steps
+abbrev pub read_so_far : List Alternatives → List Step → List Token
+read_so_far nested steps = all_of (map alternatives_tokens nested) ++ tokens_in steps

@@ -42,10 +42,24 @@ pub(crate) const NO_LOG: u64 = 4;
 /// Rejected: a declaration has the fault with this number less 16.
 pub(crate) const BAD_DECL: u64 = 16;
 
-// The codes of replies. The codes of `tell` are 0 to 8.
+// The codes of replies; `DONE` is one too. Results have the same numbers: 5 is a flag here, and `NO_MEMORY` there.
 
-/// The code of a reply that is an item.
+/// An item; the value is its body.
 pub(crate) const GOT: u64 = 1;
+/// A bounded queue is full.
+pub(crate) const FULL: u64 = 2;
+/// There is nothing to read.
+pub(crate) const EMPTY: u64 = 3;
+/// The channel is closed.
+pub(crate) const CLOSED: u64 = 4;
+/// A flag; the value is 1 if it is true, and 0 if not.
+pub(crate) const FLAG: u64 = 5;
+/// A new reader; the value is its number.
+pub(crate) const READER: u64 = 6;
+/// A length; the value is the number of items.
+pub(crate) const COUNT: u64 = 7;
+/// All items; the value is how many there are.
+pub(crate) const ALL: u64 = 8;
 /// The number that is added to the code of a reply of an open transaction.
 pub(crate) const REPLIED: u64 = 16;
 /// The code if there is no such reply, or no such item.

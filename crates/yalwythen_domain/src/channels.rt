@@ -24,7 +24,7 @@ use txc_txn_check::{Checked, Step, TxnFault};
 
 /// Why a transaction was not run, or aborted.
 #[derive(Debug, Clone, Copy)]
-pub(crate) enum Halted {
+pub(crate) enum RunError {
     Faulty(TxnFault),
     Stopped(Stop),
 }
@@ -70,7 +70,7 @@ fn run_on<K: Log>(
     spent: Receipt,
     tag: Tag,
     steps: Vec<Step>,
-) -> Result<Ran, Halted>
+) -> Result<Ran, RunError>
     requires { HasKinds plain.old kinds.now }
     ensures comes { ComesOfSteps (walk (slice_get kinds.now) steps.items) tag steps.items result
         (chan_in plain.old) (chan_in plain.new) }
@@ -79,12 +79,12 @@ fn run_on<K: Log>(
 {
     let checked = match Checked::check(steps, kinds) {
         Ok(checked) => checked,
-        Err(fault) => return Err(Halted::Faulty(fault)),
+        Err(fault) => return Err(RunError::Faulty(fault)),
     };
     checked.show_fits(kinds);
     match run_held_over(&Alone, spent, plain, tag, &checked) {
         Ok(ran) => Ok(ran),
-        Err(stop) => Err(Halted::Stopped(stop)),
+        Err(stop) => Err(RunError::Stopped(stop)),
     }
 }
 
@@ -178,23 +178,23 @@ impl<K: Log> Channels<K> {
 
     /// Runs an operation as one transaction, like `run_many` with this only step. The tag is that of the seat's last
     /// transaction, and the new receipt reuses the memory of `spent`.
-    fn run_one(&mut self, spent: Receipt, tag: Tag, op: &Op) -> Result<Ran, Halted>
+    fn run_one(&mut self, spent: Receipt, tag: Tag, op: &Op) -> Result<Ran, RunError>
         ensures comes { let steps = Do op.now ∷ [] in ComesOfSteps (walk (slice_get self.old.kinds) steps) tag steps
             result (chan_in self.old.held) (chan_in self.new.held) }
         ensures kinds { self.new.kinds ≡ self.old.kinds }
         ensures rest { (self.new.txn ≡ self.old.txn) × (self.new.points ≡ self.old.points) }
     {
         if let Err(fault) = self.check(op) {
-            return Err(Halted::Faulty(fault));
+            return Err(RunError::Faulty(fault));
         }
         match run_one(&Alone, spent, &mut self.plain, tag, op) {
             Ok(ended) => Ok(ended),
-            Err(why) => Err(Halted::Stopped(why)),
+            Err(why) => Err(RunError::Stopped(why)),
         }
     }
 
     /// Runs steps as one transaction like `run`.
-    fn run_many(&mut self, spent: Receipt, tag: Tag, steps: Vec<Step>) -> Result<Ran, Halted>
+    fn run_many(&mut self, spent: Receipt, tag: Tag, steps: Vec<Step>) -> Result<Ran, RunError>
         ensures comes { ComesOfSteps (walk (slice_get self.old.kinds) steps.items) tag steps.items result
             (chan_in self.old.held) (chan_in self.new.held) }
         ensures kinds { self.new.kinds ≡ self.old.kinds }
@@ -206,7 +206,7 @@ impl<K: Log> Channels<K> {
     /// Runs steps as one transaction with the tag of the seat's last one, in the memory of the receipt `spent`. Fails
     /// with the first fault that a check of the steps finds, or with the stop if the transaction aborts. After a retry
     /// or an error the channels are unchanged.
-    pub(crate) fn run(&mut self, spent: Receipt, tag: Tag, steps: Steps) -> Result<Ran, Halted>
+    pub(crate) fn run(&mut self, spent: Receipt, tag: Tag, steps: Steps) -> Result<Ran, RunError>
         ensures comes { ComesOfSteps (walk (slice_get self.old.kinds) (list_of_steps steps)) tag (list_of_steps steps)
             result (chan_in self.old.held) (chan_in self.new.held) }
         ensures kinds { self.new.kinds ≡ self.old.kinds }

@@ -20,10 +20,10 @@ use crate::call_result::{
     BAD_DECL, CallResult, DONE, FAULTY, NO_LOG, NO_MEMORY, NO_REPLY, NO_SUCH, NOT_NOW, REFUSED,
     RETRY, STOPPED, UNPAIRED, call_result,
 };
-use crate::channels::{Channels, Halted};
+use crate::channels::{Channels, RunError};
 use crate::limits::{DOMAIN_CHANNELS, DOMAIN_SEATS};
 use crate::numbers::{cause_number, tell};
-use crate::orders::{Misread, Order, only_operation, read_orders};
+use crate::orders::{Order, OrderError, only_operation, read_orders};
 use std::alloc::{AllocError, Global};
 use std::marker::Model;
 use std::mem;
@@ -159,12 +159,12 @@ impl<K: Log> State<K> {
         let tag = self.tags[seat as usize];
         let steps = match read_orders(self.alloc, orders) {
             Ok(steps) => steps,
-            Err(fault) => return misread(fault),
+            Err(fault) => return said_of_order_error(fault),
         };
         let spent = mem::replace(&mut self.spent, Receipt::blank(self.alloc));
         match self.channels.run(spent, tag, steps) {
             Ok(ran) => Ok(self.note(seat, ran)),
-            Err(halted) => said_of_halted(halted),
+            Err(error) => said_of_error(error),
         }
     }
 
@@ -321,28 +321,28 @@ impl<K: Log> State<K> {
 }
 
 /// Returns the result for an array that is not a list of steps. Fails if an allocation failed.
-fn misread(fault: Misread) -> Result<CallResult, AllocError>
-    ensures memory { fault ≡ Misread.NoMemory → IsErr result }
+fn said_of_order_error(fault: OrderError) -> Result<CallResult, AllocError>
+    ensures memory { fault ≡ OrderError.NoMemory → IsErr result }
     ensures code { IfOk result (λ said. (said.code ≢ 0) × (3 ≤ said.code) × (said.code ≢ 5)) }
 {
     match fault {
-        Misread::NoSuch => Ok(call_result(REFUSED, NO_SUCH)),
-        Misread::Unpaired => Ok(call_result(REFUSED, UNPAIRED)),
-        Misread::TooDeep => Ok(call_result(FAULTY, u64::from(TxnFault::TooDeep.code()))),
-        Misread::NoMemory => Err(AllocError),
+        OrderError::NoSuch => Ok(call_result(REFUSED, NO_SUCH)),
+        OrderError::Unpaired => Ok(call_result(REFUSED, UNPAIRED)),
+        OrderError::TooDeep => Ok(call_result(FAULTY, u64::from(TxnFault::TooDeep.code()))),
+        OrderError::NoMemory => Err(AllocError),
     }
 }
 
 /// Returns the result for a transaction that was not run, or aborted. Fails if an allocation failed.
-pub(crate) fn said_of_halted(halted: Halted) -> Result<CallResult, AllocError>
-    ensures said { IfOk result (λ said. said ≡ said_of_came (Err halted)) }
+pub(crate) fn said_of_error(error: RunError) -> Result<CallResult, AllocError>
+    ensures said { IfOk result (λ said. said ≡ said_of_came (Err error)) }
     ensures code { IfOk result (λ said. (said.code ≢ 0) × (said.code ≢ 5)) }
-    ensures memory { OnErr result (halted ≡ Halted.Stopped Stop.NoMemory) }
+    ensures memory { OnErr result (error ≡ RunError.Stopped Stop.NoMemory) }
 {
-    match halted {
-        Halted::Faulty(fault) => Ok(call_result(FAULTY, u64::from(fault.code()))),
-        Halted::Stopped(Stop::NoMemory) => Err(AllocError),
-        Halted::Stopped(stop) => Ok(call_result(STOPPED, u64::from(stop.code()))),
+    match error {
+        RunError::Faulty(fault) => Ok(call_result(FAULTY, u64::from(fault.code()))),
+        RunError::Stopped(Stop::NoMemory) => Err(AllocError),
+        RunError::Stopped(stop) => Ok(call_result(STOPPED, u64::from(stop.code()))),
     }
 }
 

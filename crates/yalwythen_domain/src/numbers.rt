@@ -3,7 +3,9 @@ ghost use Rattle.std.specs.Prelude.{◌≡◌, ◌≤◌, ◌↔◌, IsTrue, sli
 ghost use Rattle.yalwythen_domain.specs.Ending.{cause_code};
 ghost use Rattle.yalwythen_domain.specs.Orders.{decls_with, said_of, steps_with};
 
-use crate::call_result::{CallResult, GOT, call_result};
+use crate::call_result::{
+    ALL, CLOSED, COUNT, CallResult, DONE, EMPTY, FLAG, FULL, GOT, READER, call_result,
+};
 use txc_base::{Cause, Kind, MOST_BOUND, Op, Reply, Source};
 use txc_chan::Decl;
 use txc_txn_check::Step;
@@ -86,20 +88,20 @@ pub(crate) fn cause_number(cause: Cause) -> u64
     }
 }
 
-/// Returns the code of a reply, and its body, flag, number or number of items.
+/// Returns the code of a reply, and its body, flag, number or number of items. The codes are 0 to 8.
 pub(crate) fn tell(reply: &Reply) -> CallResult
     ensures said { result ≡ said_of reply.now }
     ensures there { result.code ≤ 8 }
 {
     match reply {
-        Reply::Done => call_result(0, 0),
+        Reply::Done => call_result(DONE, 0),
         Reply::Got(item) => call_result(GOT, item.body),
-        Reply::Full => call_result(2, 0),
-        Reply::Empty => call_result(3, 0),
-        Reply::Closed => call_result(4, 0),
-        Reply::Flag(flag) => call_result(5, u64::from(*flag)),
-        Reply::Reader(reader) => call_result(6, u64::from(*reader)),
-        Reply::Count(count) => call_result(7, *count),
-        Reply::All(items) => call_result(8, items.len() as u64),
+        Reply::Full => call_result(FULL, 0),
+        Reply::Empty => call_result(EMPTY, 0),
+        Reply::Closed => call_result(CLOSED, 0),
+        Reply::Flag(flag) => call_result(FLAG, u64::from(*flag)),
+        Reply::Reader(reader) => call_result(READER, u64::from(*reader)),
+        Reply::Count(count) => call_result(COUNT, *count),
+        Reply::All(items) => call_result(ALL, items.len() as u64),
     }
 }

@@ -14,7 +14,7 @@ ghost use Rattle.txc_txn.specs.Run.{receipt_of, state_of};
 ghost use Rattle.yalwythen_domain.specs.Opened.{HasApplied, IfFaulty, IsOpenAt, IsSavedAt, untallied};
 ghost use Rattle.yalwythen_domain.specs.Requests.{HasPoint};
 
-use crate::channels::{Channels, Halted, NO_TAG};
+use crate::channels::{Channels, NO_TAG, RunError};
 use std::alloc::AllocError;
 use std::mem;
 use txc_base::{Op, Tag, allowed, names_its_reader};
@@ -58,9 +58,9 @@ impl<K: Log> Channels<K> {
     /// Runs an operation of the open transaction. Returns whether it ran or must be retried; fails with the first fault
     /// of the operation, with its stop, or with `NoMemory` if an allocation fails. After a retry or a stop the
     /// transaction must be rolled back; after a fault nothing is done.
-    pub(crate) fn apply(&mut self, op: &Op) -> Result<Flow, Halted>
+    pub(crate) fn apply(&mut self, op: &Op) -> Result<Flow, RunError>
         ensures applied { HasApplied op.now result self.old self.new }
-        ensures faulty { IfErr result (λ halted. IfFaulty halted (λ fault.
+        ensures faulty { IfErr result (λ error. IfFaulty error (λ fault.
             walk_op (slice_get self.old.kinds) op.now untallied ≡ Faulty fault)) }
         ensures marked { (began : Map) → IsMarkedSince [] self.old.txn began (chan_in self.old.held)
             → IsMarkedSince [] self.new.txn began (chan_in self.new.held) }
@@ -72,11 +72,11 @@ impl<K: Log> Channels<K> {
             × (self.new.points ≡ self.old.points) }
     {
         if let Err(fault) = self.check(op) {
-            return Err(Halted::Faulty(fault));
+            return Err(RunError::Faulty(fault));
         }
         match self.txn.apply(&Alone, &mut self.plain, op) {
             Ok(flow) => Ok(flow),
-            Err(stop) => Err(Halted::Stopped(stop)),
+            Err(stop) => Err(RunError::Stopped(stop)),
         }
     }
 

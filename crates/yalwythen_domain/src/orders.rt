@@ -32,8 +32,8 @@ const END: u32 = 21;
 
 /// Why an array is not a list of steps.
 #[derive(Debug, Clone, Copy)]
-pub(crate) enum Misread {
-    /// An order has a number that no operation has.
+pub(crate) enum OrderError {
+    /// An order has a number that no step has.
     NoSuch,
     /// A branch or alternatives end without a beginning, or begin without an end.
     Unpaired,
@@ -43,19 +43,19 @@ pub(crate) enum Misread {
     NoMemory,
 }
 
-impl<T: Drop> From<AllocFailed<T>> for Misread {
-    ghost use Rattle.yalwythen_domain.specs.declared.orders.Misread.TheVariants.{NoMemory};
+impl<T: Drop> From<AllocFailed<T>> for OrderError {
+    ghost use Rattle.yalwythen_domain.specs.declared.orders.OrderError.TheVariants.{NoMemory};
 
     ghost from_gives = { λ _ fault. fault ≡ NoMemory };
 
-    fn from(_refused: AllocFailed<T>) -> Misread {
-        Misread::NoMemory
+    fn from(_refused: AllocFailed<T>) -> OrderError {
+        OrderError::NoMemory
     }
 }
 
 /// Alternatives that have not ended: their branches that have ended, and the steps before them.
 #[derive(Drop)]
-struct Fork {
+struct Alternatives {
     before: Vec<Step>,
     branches: Vec<List<Step>>,
 }
@@ -64,7 +64,7 @@ struct Fork {
 #[derive(Drop)]
 struct Reading {
     alloc: Global,
-    forks: Vec<Fork>,
+    nested: Vec<Alternatives>,
     steps: Vec<Step>,
 }
 
@@ -72,68 +72,69 @@ impl Reading {
     /// Takes the steps of the branch that is being read, and leaves none.
     fn take_steps(&mut self) -> Vec<Step>
         ensures taken { result.items ≡ self.old.steps.items }
-        ensures left { (self.new.steps.items ≡ []) × (self.new.forks ≡ self.old.forks) }
+        ensures left { (self.new.steps.items ≡ []) × (self.new.nested ≡ self.old.nested) }
     {
         mem::replace(&mut self.steps, Vec::new(self.alloc))
     }
 
     /// Begins alternatives.
-    fn begin(&mut self) -> Result<(), Misread>
-        ensures { OnOk result (read_so_far self.new.forks.items self.new.steps.items
-            ≡ read_so_far self.old.forks.items self.old.steps.items ++ Begin ∷ []) }
+    fn begin(&mut self) -> Result<(), OrderError>
+        ensures { OnOk result (read_so_far self.new.nested.items self.new.steps.items
+            ≡ read_so_far self.old.nested.items self.old.steps.items ++ Begin ∷ []) }
     {
-        if self.forks.len() >= MOST_NESTED {
-            return Err(Misread::TooDeep);
+        if self.nested.len() >= MOST_NESTED {
+            return Err(OrderError::TooDeep);
         }
         let before = self.take_steps();
         let branches = Vec::new(self.alloc);
-        self.forks.push(Fork { before, branches })?;
+        self.nested.push(Alternatives { before, branches })?;
         Ok(())
     }
 
     /// Ends a branch, and begins the next one.
-    fn part(&mut self) -> Result<(), Misread>
-        ensures { OnOk result (read_so_far self.new.forks.items self.new.steps.items
-            ≡ read_so_far self.old.forks.items self.old.steps.items ++ Next ∷ []) }
+    fn next_branch(&mut self) -> Result<(), OrderError>
+        ensures { OnOk result (read_so_far self.new.nested.items self.new.steps.items
+            ≡ read_so_far self.old.nested.items self.old.steps.items ++ Next ∷ []) }
     {
         let steps = self.take_steps();
-        let Some(mut fork) = self.forks.pop() else {
-            return Err(Misread::Unpaired);
+        let Some(mut alternatives) = self.nested.pop() else {
+            return Err(OrderError::Unpaired);
         };
-        fork.branches.push(List::from_vec(steps))?;
-        self.forks.push(fork)?;
+        alternatives.branches.push(List::from_vec(steps))?;
+        self.nested.push(alternatives)?;
         Ok(())
     }
 
     /// Ends alternatives, and adds them as a step to the branch that contains them.
-    fn end(&mut self) -> Result<(), Misread>
-        ensures { OnOk result (read_so_far self.new.forks.items self.new.steps.items
-            ≡ read_so_far self.old.forks.items self.old.steps.items ++ End ∷ []) }
+    fn end(&mut self) -> Result<(), OrderError>
+        ensures { OnOk result (read_so_far self.new.nested.items self.new.steps.items
+            ≡ read_so_far self.old.nested.items self.old.steps.items ++ End ∷ []) }
     {
         let steps = self.take_steps();
-        let Some(mut fork) = self.forks.pop() else {
-            return Err(Misread::Unpaired);
+        let Some(mut alternatives) = self.nested.pop() else {
+            return Err(OrderError::Unpaired);
         };
-        fork.branches.push(List::from_vec(steps))?;
-        self.steps = fork.before;
-        self.steps.push(Step::Or(List::from_vec(fork.branches)))?;
+        alternatives.branches.push(List::from_vec(steps))?;
+        self.steps = alternatives.before;
+        self.steps
+            .push(Step::Or(List::from_vec(alternatives.branches)))?;
         Ok(())
     }
 
     /// Reads one order.
-    fn read(&mut self, order: &Order) -> Result<(), Misread>
-        ensures forks { OnOk result (IsPlain order.now → self.new.forks.items ≡ self.old.forks.items) }
-        ensures tokens { OnOk result (map Some (read_so_far self.new.forks.items self.new.steps.items)
-            ≡ map Some (read_so_far self.old.forks.items self.old.steps.items) ++ token_of order.now ∷ []) }
-        ensures err { IfErr result (λ fault. IsPlain order.now → fault ≡ Misread.NoMemory) }
+    fn read(&mut self, order: &Order) -> Result<(), OrderError>
+        ensures nested { OnOk result (IsPlain order.now → self.new.nested.items ≡ self.old.nested.items) }
+        ensures tokens { OnOk result (map Some (read_so_far self.new.nested.items self.new.steps.items)
+            ≡ map Some (read_so_far self.old.nested.items self.old.steps.items) ++ token_of order.now ∷ []) }
+        ensures err { IfErr result (λ fault. IsPlain order.now → fault ≡ OrderError.NoMemory) }
     {
         match order.number {
             EITHER => self.begin(),
-            OR => self.part(),
+            OR => self.next_branch(),
             END => self.end(),
             number => {
                 let Some(step) = step_numbered(number, order.chan, order.reader, order.body) else {
-                    return Err(Misread::NoSuch);
+                    return Err(OrderError::NoSuch);
                 };
                 self.steps.push(step)?;
                 Ok(())
@@ -165,9 +166,9 @@ pub(crate) fn only_operation(orders: &[Order]) -> Option<Op>
 
 /// Reads the steps in an array. Fails if the array is not a list of steps, or if an allocation fails. Allocates unless
 /// the only step is an operation.
-pub(crate) fn read_orders(alloc: Global, orders: &[Order]) -> Result<Steps, Misread>
+pub(crate) fn read_orders(alloc: Global, orders: &[Order]) -> Result<Steps, OrderError>
     ensures written { IfOk result (λ steps. AreSteps orders.now (list_of_steps steps)) }
-    ensures err { IfErr result (λ fault. All IsPlain orders.now → fault ≡ Misread.NoMemory) }
+    ensures err { IfErr result (λ fault. All IsPlain orders.now → fault ≡ OrderError.NoMemory) }
 {
     if let Some(op) = only_operation(orders) {
         return Ok(Steps::One(op));
@@ -176,20 +177,20 @@ pub(crate) fn read_orders(alloc: Global, orders: &[Order]) -> Result<Steps, Misr
 }
 
 /// Reads the steps in an array as a list. Fails like `read_orders`.
-fn read_steps(alloc: Global, orders: &[Order]) -> Result<Vec<Step>, Misread>
+fn read_steps(alloc: Global, orders: &[Order]) -> Result<Vec<Step>, OrderError>
     ensures written { IfOk result (λ steps. AreSteps orders.now steps.items) }
-    ensures err { IfErr result (λ fault. All IsPlain orders.now → fault ≡ Misread.NoMemory) }
+    ensures err { IfErr result (λ fault. All IsPlain orders.now → fault ≡ OrderError.NoMemory) }
 {
     let mut reading = Reading {
         alloc,
-        forks: Vec::new(alloc),
+        nested: Vec::new(alloc),
         steps: Vec::new(alloc),
     };
     for order in orders {
         reading.read(order)?;
     }
-    if !reading.forks.is_empty() {
-        return Err(Misread::Unpaired);
+    if !reading.nested.is_empty() {
+        return Err(OrderError::Unpaired);
     }
     Ok(reading.steps)
 }

@@ -11,8 +11,8 @@ ghost use Rattle.yalwythen_domain.specs.Requests.{last_said, operation_in, phase
 use crate::call_result::{
     CallResult, DONE, NO_REPLY, NO_SUCH, NOT_NOW, REFUSED, REPLIED, RETRY, STOPPED, call_result,
 };
-use crate::channels::{Channels, Halted};
-use crate::domain::{Phase, State, said_of_halted};
+use crate::channels::{Channels, RunError};
+use crate::domain::{Phase, State, said_of_error};
 use crate::numbers::{cause_number, decl_numbered, step_numbered, tell};
 use std::alloc::AllocError;
 use std::mem;
@@ -151,7 +151,7 @@ impl<K: Log> State<K> {
         match ran {
             Ok(Flow::Done) => Ok(self.last_reply()),
             Ok(Flow::Again(cause)) => Ok(call_result(RETRY, cause_number(cause))),
-            Err(halted) => said_of_halted(halted),
+            Err(error) => said_of_error(error),
         }
     }
 
@@ -293,14 +293,14 @@ impl<K: Log> State<K> {
 }
 
 /// Returns whether the open transaction goes on after an operation. After a retry or a stop it must be rolled back.
-fn phase_after(ran: &Result<Flow, Halted>) -> Phase
+fn phase_after(ran: &Result<Flow, RunError>) -> Phase
     ensures { result ≡ phase_after ran.now }
 {
     match ran {
         Ok(Flow::Done) => Phase::Open,
         Ok(Flow::Again(_)) => Phase::Failed,
-        Err(Halted::Faulty(_)) => Phase::Open,
-        Err(Halted::Stopped(_)) => Phase::Failed,
+        Err(RunError::Faulty(_)) => Phase::Open,
+        Err(RunError::Stopped(_)) => Phase::Failed,
     }
 }
 

@@ -67,7 +67,8 @@ fn refused(code: u64) -> Replayed
     Replayed { code, length: 0 }
 }
 
-/// Writes a text to the front of the caller's bytes, if it fits. Returns code 0 with its length, or code 14.
+/// Writes a text to the front of the caller's bytes, if it fits. Returns its length, with code 0, or with code 14 if it
+/// does not fit.
 fn hand_out(text: &[u8], out: &mut [u8]) -> Replayed
     ensures fits { result.code ≡ 0 → result.length ≡ length text.now }
     ensures text { result.code ≡ 0 → take result.length out.new ≡ text.now }

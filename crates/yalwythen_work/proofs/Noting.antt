@@ -8,11 +8,11 @@ use Rattle.std.proofs.lemmas.List.Elements.{All-append, All-cons}
 use Rattle.txc_table_audit.specs.Turns.{no_plan}
 use Rattle.txc_txn_check.specs.Limits.{CheckedView}
 use Rattle.yalwythen_work.specs.Plans.{IsThere, plan_of}
-use Rattle.yalwythen_work.specs.declared.plans.Noted.{Noted}
-use Rattle.yalwythen_work.specs.declared.plans.Noted.TheVariants.{Once, Prepared}
+use Rattle.yalwythen_work.specs.declared.plans.PlanIndex.{PlanIndex}
+use Rattle.yalwythen_work.specs.declared.plans.PlanIndex.TheVariants.{Once, Prepared}
 
 -- lists that have the same where the first ones have something tell the same of what was kept
-same_kept : (prepared once prepared' once' : List CheckedView) (kept : List Noted)
+same_kept : (prepared once prepared' once' : List CheckedView) (kept : List PlanIndex)
     → ((n : ℕ) → n < length prepared → slice_index_or prepared' n no_plan ≡ slice_index_or prepared n no_plan)
     → ((n : ℕ) → n < length once → slice_index_or once' n no_plan ≡ slice_index_or once n no_plan)
     → All (IsThere (length prepared) (length once)) kept
@@ -28,7 +28,7 @@ same_kept prepared once prepared' once' (Prepared number ∷ kept) same_prepared
     (λ k d below. there (suc k) d (omega (arith, below))) j
 
 -- one more that is prepared leaves those that were kept
-pub one_more_prepared : (prepared once : List CheckedView) (plan : CheckedView) (kept : List Noted)
+pub one_more_prepared : (prepared once : List CheckedView) (plan : CheckedView) (kept : List PlanIndex)
     → All (IsThere (length prepared) (length once)) kept
     → map (plan_of (prepared ++ plan ∷ []) once) kept ≡ map (plan_of prepared once) kept
 one_more_prepared prepared once plan kept there =
@@ -36,7 +36,7 @@ one_more_prepared prepared once plan kept there =
     (λ n below. get_or-append prepared (plan ∷ []) no_plan n below) (λ n below. refl) there
 
 -- one more that is kept, and was given for once, comes after those that were kept
-pub one_more_once : (prepared once : List CheckedView) (plan : CheckedView) (kept : List Noted)
+pub one_more_once : (prepared once : List CheckedView) (plan : CheckedView) (kept : List PlanIndex)
     → All (IsThere (length prepared) (length once)) kept
     → map (plan_of prepared (once ++ plan ∷ [])) (kept ++ Once (length once) ∷ [])
     ≡ map (plan_of prepared once) kept ++ plan ∷ []

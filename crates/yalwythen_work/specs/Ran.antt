@@ -14,7 +14,7 @@ use Rattle.txc_txn.specs.declared.report.Report.{Report}
 use Rattle.txc_table_lines.specs.Accounted.{summary_in}
 use Rattle.txc_table.specs.Finished.{IsOneHistory}
 use Rattle.yalwythen_work.specs.declared.closed.Closed.{Closed}
-use Rattle.yalwythen_work.specs.declared.pool.Back.{Back}
+use Rattle.yalwythen_work.specs.declared.pool.Results.{Results}
 use Rattle.yalwythen_work.specs.declared.done.Done.{Done}
 use Rattle.yalwythen_work.specs.declared.run_fault.RunFault.{RunFault}
 use Rattle.yalwythen_work.specs.declared.run_fault.RunFault.TheVariants.{TooManyWorkers, Table, NoThread, Torn}
@@ -55,9 +55,9 @@ IsRefused decls workers (Torn seat chan place report) = ⊥
 IsRefused decls workers NoMemory = Unit {0}
 
 -- this number of workers are back, each with its results
-abbrev pub IsOfAll : {L W : Type 0} → ℕ → Back L W → Type 0
-IsOfAll many back = (vec_len back.left ≡ many) × (vec_len back.workers ≡ many) × (vec_len back.ends ≡ many)
-    × (vec_len back.plans ≡ many)
+abbrev pub IsOfAll : {L W : Type 0} → ℕ → Results L W → Type 0
+IsOfAll many results = (vec_len results.left ≡ many) × (vec_len results.workers ≡ many) × (vec_len results.ends ≡ many)
+    × (vec_len results.plans ≡ many)
 
 -- a run has this number of workers, of results of workers, and of lists of noted transactions
 abbrev pub IsOfEach : {W : Type 0} → ℕ → Done W → Type 0

@@ -11,7 +11,7 @@ use txc_txn_check::Checked;
 /// A committed transaction, as an index into one of two lists. So a transaction that is run often takes two words each
 /// time.
 #[derive(Debug, Clone, Copy)]
-pub(crate) enum Noted {
+pub(crate) enum PlanIndex {
     /// The transaction with this number in the list of transactions that are run once.
     Once(usize),
     /// The prepared transaction with this number.
@@ -24,7 +24,7 @@ pub(crate) enum Noted {
 pub struct Plans {
     prepared: Vec<Checked>,
     once: Vec<Checked>,
-    kept: Vec<Noted>,
+    kept: Vec<PlanIndex>,
     // Whether committed transactions are noted.
     notes: bool,
 }
@@ -128,7 +128,7 @@ impl Plans {
         if self.notes {
             let number = self.once.len();
             self.once.push_reserved(plan);
-            self.kept.push_reserved(Noted::Once(number));
+            self.kept.push_reserved(PlanIndex::Once(number));
         }
     }
 
@@ -143,7 +143,7 @@ impl Plans {
         ensures notes { self.new.notes ≡ self.old.notes }
     {
         if self.notes {
-            self.kept.push_reserved(Noted::Prepared(number));
+            self.kept.push_reserved(PlanIndex::Prepared(number));
         }
     }
 
@@ -167,8 +167,8 @@ impl Plans {
         ensures { result.now ≡ slice_index_or self.now.kept number no_plan }
     {
         match self.kept[number] {
-            Noted::Once(once) => &self.once[once],
-            Noted::Prepared(prepared) => &self.prepared[prepared],
+            PlanIndex::Once(once) => &self.once[once],
+            PlanIndex::Prepared(prepared) => &self.prepared[prepared],
         }
     }
 }

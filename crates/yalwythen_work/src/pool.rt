@@ -26,16 +26,16 @@ pub(crate) struct Pool<'a, R, K: Recording> {
     pub(crate) table: &'a Table<K>,
 }
 
-/// The workers that are done, by their numbers, and their results.
+/// The workers and their results, by the workers' numbers.
 #[derive(Drop)]
-pub(crate) struct Back<L, W> {
+pub(crate) struct Results<L, W> {
     pub(crate) left: Vec<L>,
     pub(crate) workers: Vec<W>,
     pub(crate) ends: Vec<Result<(), TransactError>>,
     pub(crate) plans: Vec<Plans>,
 }
 
-impl<L: Drop, W: Drop> Back<L, W> {
+impl<L: Drop, W: Drop> Results<L, W> {
     ghost use Rattle.std.specs.Prelude.{◌≡◌, ◌+◌, ◌++◌, ◌∷◌, [], OnOk, vec_len};
 
     /// Adds the result of one worker. Fails with `NoMemory` if allocation fails; some of the lists may then have grown.
@@ -63,7 +63,7 @@ impl<L: Drop, W: Drop> Back<L, W> {
 }
 
 /// Makes each of these seats leave the table.
-fn let_go<R: Wait, K: Recording>(rt: &R, table: &Table<K>, seats: Vec<Seat<K, K::Receipts>>)
+fn leave_all<R: Wait, K: Recording>(rt: &R, table: &Table<K>, seats: Vec<Seat<K, K::Receipts>>)
     requires of { (k : ℕ) (s : _) → k < vec_len seats → (slice_index_or seats.items k s).lines ≡ table.now.lines }
 {
     let mut seats = seats;
@@ -73,8 +73,9 @@ fn let_go<R: Wait, K: Recording>(rt: &R, table: &Table<K>, seats: Vec<Seat<K, K:
     seats.destroy_empty();
 }
 
-/// Pairs each seat with the worker of the same number and appends the pairs to `jobs`, which must have the capacity.
-fn send_off<'a, R: Wait, K: Recording, W: Drop, Q>(
+/// Pairs each seat with the worker of the same number and adds the pairs to `jobs`, which must be empty and have capacity
+/// for them.
+fn make_jobs<'a, R: Wait, K: Recording, W: Drop, Q>(
     pool: &Pool<'a, R, K>,
     seats: Vec<Seat<K, K::Receipts>>,
     workers: Vec<W>,
@@ -105,8 +106,8 @@ fn send_off<'a, R: Wait, K: Recording, W: Drop, Q>(
     seats.destroy_empty();
 }
 
-/// Returns the outputs if all are there. Fails with `NoMemory` if one is missing or allocation fails.
-fn all_there<T: Drop>(
+/// Collects the outputs if none is an error. Fails with `NoMemory` if one is, or if allocation fails.
+fn collect_outputs<T: Drop>(
     alloc: Global,
     outputs: Vec<Result<T, AllocError>>,
 ) -> Result<Vec<T>, StartError>
@@ -134,37 +135,37 @@ fn perform_all<
     ensures came { IfOk result (λ all. AllCame (λ job served. J.Does job (Ok served)) jobs.items all.items) }
 {
     let outputs = run_all(rt, alloc, jobs)?;
-    all_there(alloc, outputs)
+    collect_outputs(alloc, outputs)
 }
 
-/// Sorts the results of the workers into one list per kind of result, by the workers' numbers. Fails with `NoMemory` if
-/// allocation fails.
-fn sort_out<L: Drop, W: Drop>(
+/// Unzips the results of the workers into one list per kind of result, by the workers' numbers. Fails with `NoMemory`
+/// if allocation fails.
+fn unzip_results<L: Drop, W: Drop>(
     alloc: Global,
     served: Vec<JobResult<L, W>>,
-) -> Result<Back<L, W>, StartError>
-    ensures len { IfOk result (λ back. IsOfAll (vec_len served) back) }
-    ensures each { IfOk result (λ back. (k : ℕ) (s : _) (l : _) (w : _) (p : _) → k < vec_len served
-        → (slice_index_or back.left.items k l ≡ (slice_index_or served.items k s).left)
-        × (slice_index_or back.workers.items k w ≡ (slice_index_or served.items k s).worker)
-        × (slice_index_or back.plans.items k p ≡ (slice_index_or served.items k s).plans)) }
+) -> Result<Results<L, W>, StartError>
+    ensures len { IfOk result (λ results. IsOfAll (vec_len served) results) }
+    ensures each { IfOk result (λ results. (k : ℕ) (s : _) (l : _) (w : _) (p : _) → k < vec_len served
+        → (slice_index_or results.left.items k l ≡ (slice_index_or served.items k s).left)
+        × (slice_index_or results.workers.items k w ≡ (slice_index_or served.items k s).worker)
+        × (slice_index_or results.plans.items k p ≡ (slice_index_or served.items k s).plans)) }
 {
-    let mut back = Back {
+    let mut results = Results {
         left: Vec::new(alloc),
         workers: Vec::new(alloc),
         ends: Vec::new(alloc),
         plans: Vec::new(alloc),
     };
     for one in served {
-        match back.add(one) {
+        match results.add(one) {
             Ok(()) => {}
             Err(refused) => {
-                drop(back);
+                drop(results);
                 return Err(refused);
             }
         }
     }
-    Ok(back)
+    Ok(results)
 }
 
 /// Runs each worker in a thread of its own, at the seat with its number, and returns their results.
@@ -181,32 +182,33 @@ pub(crate) fn work_all<
     pool: Pool<'a, R, K>,
     seats: Vec<Seat<K, K::Receipts>>,
     workers: Vec<W>,
-) -> Result<Back<LeftSeat<K, K::Receipts>, W>, StartError>
+) -> Result<Results<LeftSeat<K, K::Receipts>, W>, StartError>
 where
     K::Receipts: Send,
     requires workers { vec_len workers ≡ vec_len seats }
     requires of { (k : ℕ) (s : _) → k < vec_len seats
         → (slice_index_or seats.items k s).lines ≡ pool.table.now.lines }
     requires fresh { (k : ℕ) (s : _) → k < vec_len seats → (slice_index_or seats.items k s).sitting ≡ untouched k }
-    ensures len { IfOk result (λ back. IsOfAll (vec_len workers) back) }
-    ensures numbered { IfOk result (λ back. (k : ℕ) (l : _) → k < vec_len workers
-        → (slice_index_or back.left.items k l).sitting.number ≡ k) }
-    ensures of { IfOk result (λ back. (k : ℕ) (l : _) → k < vec_len workers
-        → (slice_index_or back.left.items k l).lines ≡ pool.entry.table.now.lines) }
-    ensures noted { IfOk result (λ back. IsTrue pool.entry.setup.notes → (k : ℕ) (l : _) (p : _) → k < vec_len workers
-        → (slice_index_or back.plans.items k p).kept ≡ (slice_index_or back.left.items k l).sitting.plans) }
-    ensures came { IfOk result (λ back. (k : ℕ) (b : _) (a : _) → k < vec_len workers
-        → Q.Came (slice_index_or workers.items k b) (slice_index_or back.workers.items k a)) }
+    ensures len { IfOk result (λ results. IsOfAll (vec_len workers) results) }
+    ensures numbered { IfOk result (λ results. (k : ℕ) (l : _) → k < vec_len workers
+        → (slice_index_or results.left.items k l).sitting.number ≡ k) }
+    ensures of { IfOk result (λ results. (k : ℕ) (l : _) → k < vec_len workers
+        → (slice_index_or results.left.items k l).lines ≡ pool.entry.table.now.lines) }
+    ensures noted { IfOk result (λ results. IsTrue pool.entry.setup.notes → (k : ℕ) (l : _) (p : _)
+        → k < vec_len workers → (slice_index_or results.plans.items k p).kept
+        ≡ (slice_index_or results.left.items k l).sitting.plans) }
+    ensures came { IfOk result (λ results. (k : ℕ) (b : _) (a : _) → k < vec_len workers
+        → Q.Came (slice_index_or workers.items k b) (slice_index_or results.workers.items k a)) }
 {
     let mut jobs: Vec<Job<'a, R, K, W, Q>> = Vec::new(pool.setup.alloc);
     match jobs.reserve(seats.len()) {
         Ok(()) => {}
         Err(_refused) => {
-            let_go(pool.rt, pool.table, seats);
+            leave_all(pool.rt, pool.table, seats);
             return Err(StartError::NoMemory);
         }
     }
-    send_off(&pool, seats, workers, &mut jobs);
+    make_jobs(&pool, seats, workers, &mut jobs);
     let served = perform_all(pool.rt, pool.setup.alloc, jobs)?;
-    sort_out(pool.setup.alloc, served)
+    unzip_results(pool.setup.alloc, served)
 }

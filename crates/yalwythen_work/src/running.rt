@@ -4,10 +4,10 @@ ghost use Rattle.yalwythen_work.specs.Ran.{IsOfEach, IsRefused, IsRun, IsSerial}
 ghost use Rattle.txc_base_threads.specs.Came.{AllCame};
 
 use crate::done::Done;
-use crate::meeting::{Met, meet};
-use crate::pool::Back;
+use crate::pool::Results;
 use crate::role::InRun;
 use crate::run_fault::RunFault;
+use crate::run_workers::{EndedWorkers, run_workers};
 use crate::setup::Setup;
 use crate::worker::Worker;
 use std::alloc::Global;
@@ -28,14 +28,14 @@ fn run_with<R: Threads + Wait + Sync, W: Worker<R> + Send + Drop>(
     ensures came { IfOk result (λ done. AllCame W.Came workers.items done.workers.items) }
     ensures err { IfErr result (IsRefused decls.now (vec_len workers)) }
 {
-    let met = meet::<R, FullLog, W, InRun>(rt, setup, decls, workers)?;
-    let Met { table, back } = met;
-    let Back {
+    let ended = run_workers::<R, FullLog, W, InRun>(rt, setup, decls, workers)?;
+    let EndedWorkers { table, results } = ended;
+    let Results {
         left,
         workers,
         ends,
         plans,
-    } = back;
+    } = results;
     let Ok(idle) = table.into_idle(rt, setup.alloc, left) else {
         return Err(RunFault::NoMemory);
     };

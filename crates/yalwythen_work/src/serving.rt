@@ -6,10 +6,10 @@ ghost use Rattle.txc_table.specs.Finished.{IsFinishedInSummary};
 ghost use Rattle.txc_table.specs.Refused.{AreBack};
 
 use crate::closed::Closed;
-use crate::meeting::{Met, meet};
-use crate::pool::Back;
+use crate::pool::Results;
 use crate::role::InService;
 use crate::run_fault::RunFault;
+use crate::run_workers::{EndedWorkers, run_workers};
 use crate::server::Server;
 use crate::setup::Setup;
 use std::alloc::Global;
@@ -22,22 +22,23 @@ use txc_table::{FinishFault, LastReceipt, LeftSeat, Table};
 fn close<R: Wait, W: Drop>(
     rt: &R,
     alloc: Global,
-    met: Met<Table<GhostLog>, LeftSeat<GhostLog, LastReceipt>, W>,
+    ended: EndedWorkers<Table<GhostLog>, LeftSeat<GhostLog, LastReceipt>, W>,
 ) -> Result<Closed<W>, RunFault>
-    requires many { IsOfAll met.table.seats met.back }
-    requires back { AreBack met.table.lines met.table.seats met.back.left.items }
-    ensures summaries { IfOk result (λ closed. IsFinishedInSummary met.table met.back.left.items closed.summaries) }
-    ensures each { IfOk result (λ closed. IsOfEachServer met.table.seats closed) }
-    ensures servers { IfOk result (λ closed. closed.servers ≡ met.back.workers) }
+    requires many { IsOfAll ended.table.seats ended.results }
+    requires back { AreBack ended.table.lines ended.table.seats ended.results.left.items }
+    ensures summaries { IfOk result (λ closed.
+        IsFinishedInSummary ended.table ended.results.left.items closed.summaries) }
+    ensures each { IfOk result (λ closed. IsOfEachServer ended.table.seats closed) }
+    ensures servers { IfOk result (λ closed. closed.servers ≡ ended.results.workers) }
     ensures err { IfErr result (λ fault. fault ≡ RunFault.NoMemory) }
 {
-    let Met { table, back } = met;
-    let Back {
+    let EndedWorkers { table, results } = ended;
+    let Results {
         left,
         workers,
         ends,
         plans: _,
-    } = back;
+    } = results;
     match table.finish_in_summary(rt, alloc, left) {
         Ok(summaries) => Ok(Closed {
             summaries,
@@ -67,8 +68,8 @@ fn serve_with<R: Threads + Wait + Sync, W: Server<R> + Send + Drop>(
     ensures came { IfOk result (λ closed. AllCame W.Came servers.items closed.servers.items) }
     ensures err { IfErr result (IsRefused decls.now (vec_len servers)) }
 {
-    let met = meet::<R, GhostLog, W, InService>(rt, setup, decls, servers)?;
-    close(rt, setup.alloc, met)
+    let ended = run_workers::<R, GhostLog, W, InService>(rt, setup, decls, servers)?;
+    close(rt, setup.alloc, ended)
 }
 
 /// Runs each server in a thread of its own, at a table of these channels with a seat for each server, and finishes the

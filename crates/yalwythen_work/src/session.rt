@@ -38,8 +38,8 @@ use txc_chan::{FullLog, Summary};
 use txc_table::{Ended, Gate, Seat, Table, Tried};
 use txc_txn_check::{Checked, Step, TxnFault};
 
-/// A worker's handle of the table, through the worker's own seat. Its methods have no preconditions: each call checks
-/// the steps against the table's channels. The seat is always one of the table. When the session is dropped, its seat
+/// A worker's handle of the table, through the worker's own seat. Its public methods have no preconditions: each call
+/// checks the steps against the table's channels. The seat is always one of the table. When the session is dropped, its seat
 /// goes into the cell that the session was made for.
 pub struct Session<'a, K: Recording = FullLog> {
     alloc: Global,
@@ -363,8 +363,9 @@ impl<K: Recording> Session<'_, K> {
         Ok(self.table.summary(rt, &mut self.seat, chan)?)
     }
 
-    /// Returns the item at a slot of a broadcast channel. The item at a slot never changes. Returns `None` if there is
-    /// no such channel, if the channel is a queue, if the slot is still empty, and always in a service. Takes no lock.
+    /// Returns the item at a slot of a broadcast channel's shelf. The shelf has each written item, also those of a
+    /// transaction that has not committed or was rolled back, at a slot that never changes. Returns `None` if there is
+    /// no such channel, if the channel is a queue, if the slot is still empty, and always under `serve`. Takes no lock.
     pub fn look(&self, chan: u16, slot: usize) -> Option<Sight>
         ensures own { IfSome result (λ sight. IsSeen self.now.table.made chan sight) }
         ensures slot { IfSome result (λ sight. sight.slot ≡ slot) }

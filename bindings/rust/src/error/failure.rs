@@ -1,12 +1,12 @@
 use super::error;
 
-/// Why a transaction failed, whatever its channels have.
+/// Why a transaction failed, other than by the state of its channels.
 #[derive(Debug, Clone, Copy, PartialEq, Eq)]
 #[non_exhaustive]
 pub enum Failure {
     /// Allocation failed.
     NoMemory,
-    /// The domain has run 2^64 - 1 transactions.
+    /// A serial, a stamp or a log of the domain has reached 2^64 - 1.
     Worn,
 }
 

@@ -4,7 +4,7 @@ use super::{Cause, Failure, error_with_value};
 #[derive(Clone, Copy, PartialEq, Eq)]
 #[non_exhaustive]
 pub enum TryRunError<S> {
-    /// A step must wait, and the call must not, or no longer.
+    /// A step must wait, and the call does not wait, or its time is over.
     Retry(S, Cause),
     /// A step is on a channel of another domain.
     OtherDomain(S),

@@ -4,7 +4,8 @@
 ///
 /// - `recv(rx) -> name`: a receive from a [`Receiver`](crate::Receiver) or a [`Subscriber`](crate::Subscriber). The
 ///   name is a `Result<T, RecvError>`.
-/// - `send(tx, value) -> name`: a send. The name is a `Result<(), SendError<T>>`. The value is made in any case.
+/// - `send(tx, value) -> name`: a send. The name is a `Result<(), SendError<T>>`. The value is evaluated even if
+///   another alternative runs.
 /// - `run(steps) -> name`: a whole transaction. The name is its replies.
 /// - `default`, at the end: what is done if all others must wait.
 /// - `default(timeout)`, at the end: what is done if all others must wait until the time is over.

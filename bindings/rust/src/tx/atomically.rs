@@ -22,8 +22,8 @@ impl Domain {
     ///
     /// # Panics
     ///
-    /// If the closure calls the domain other than by its [`Tx`], if an item leaves the closure and is rolled back, or
-    /// if the closure retries without a step on any channel.
+    /// If the closure calls the domain other than by its [`Tx`], if an item leaves the closure and is rolled back, or,
+    /// only here, if the closure retries without a step on any channel.
     ///
     /// ```
     /// use yalwythen::Domain;

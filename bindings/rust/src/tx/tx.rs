@@ -69,7 +69,7 @@ impl<'d> Tx<'d> {
     /// Writes a value, or an [`Item`] that this closure has read.
     ///
     /// Returns `()`, or, if the channel can be closed, a `Result`: the value comes back if the channel is closed.
-    /// Returns `Retry` if the queue is full; the value is dropped then.
+    /// Returns `Retry` if the queue is full: a new value is then dropped, and an [`Item`] goes back to its queue.
     pub fn write<T, K: Kind, W: Writable<T, K>>(
         &mut self,
         to: &Sender<T, K>,

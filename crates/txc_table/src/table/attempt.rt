@@ -37,14 +37,14 @@ use txc_txn_check::Step;
 
 mod moving;
 
-/// A transaction, with the allocator of its receipt.
+/// What a call was given: the transaction, and the allocator of its receipt.
 #[derive(Drop)]
-struct Turn<'a> {
+struct Call<'a> {
     alloc: Global,
     checked: &'a Checked,
 }
 
-/// Returns the operation of a transaction that has only one, outside of all branches.
+/// Returns the operation of a transaction whose only step it is.
 fn only_operation(checked: &Checked) -> Option<&Op>
     ensures some { IfSome result (λ op.
         (checked.now.steps ≡ Do op.now ∷ []) × (checked.now.declared ≡ chan_of op.now ∷ [])) }
@@ -52,6 +52,8 @@ fn only_operation(checked: &Checked) -> Option<&Op>
         → checked.now.declared ≢ chan_of op ∷ []) }
 {
     let steps = checked.steps();
+    // The numbers of the channels that the operations are on: here that of the one operation. The comparison with it
+    // saves a proof of that.
     let declared = checked.declared();
     if steps.len() != 1 || declared.len() != 1 {
         return None;
@@ -70,21 +72,21 @@ impl<K: Log> Table<K> {
     fn commit_at_once<R: Wait>(
         &self,
         rt: &R,
-        turn: &Turn<'_>,
+        call: &Call<'_>,
         shares: &mut SeatShares<K>,
         receipt: &mut Receipt,
     ) -> Result<AtOnce, AllocError>
         requires of { line_ids shares.old ≡ self.now.lines.all }
-        requires fits { Fits (slice_get self.now.kinds) turn.now.checked.now.steps }
-        ensures outcome { let plan = turn.now.checked.now in IfOk result (λ is. is ≡ AtOnce.Committed
+        requires fits { Fits (slice_get self.now.kinds) call.now.checked.now.steps }
+        ensures outcome { let plan = call.now.checked.now in IfOk result (λ is. is ≡ AtOnce.Committed
             → (m : Map) × AreKnown shares.old m × Answers (kept_tag m receipt.old.tag plan.declared)
             (transaction m receipt.old.tag plan.declared plan.steps) (RanKept receipt.new)) }
-        ensures retry { let plan = turn.now.checked.now in (cause : Causes) → IfOk result (λ is.
+        ensures retry { let plan = call.now.checked.now in (cause : Causes) → IfOk result (λ is.
             is ≡ AtOnce.MustRetry cause → (m : Map) × AreKnown shares.old m
             × (transaction m receipt.old.tag plan.declared plan.steps ≡ Again cause)) }
         ensures kept { IfOk result (λ is. is ≡ AtOnce.Committed
-            → IsKeptWith receipt.old.tag turn.now.checked.now shares.old shares.new receipt.new) }
-        ensures once { let plan = turn.now.checked.now in (op : Ops) → plan.steps ≡ Do op ∷ []
+            → IsKeptWith receipt.old.tag call.now.checked.now shares.old shares.new receipt.new) }
+        ensures once { let plan = call.now.checked.now in (op : Ops) → plan.steps ≡ Do op ∷ []
             → plan.declared ≡ chan_of op ∷ []
             → IfOk result (λ is. is ≢ AtOnce.Committed → IsNotImmediate receipt.old.tag op shares.old) }
         ensures left { IfOk result (λ is. is ≢ AtOnce.Committed
@@ -92,82 +94,84 @@ impl<K: Log> Table<K> {
         ensures lines { line_ids shares.new ≡ line_ids shares.old }
         ensures same { OnErr result (shares.new ≡ shares.old) }
     {
-        let checked = turn.checked;
+        let checked = call.checked;
         let Some(op) = only_operation(checked) else {
             return Ok(AtOnce::NotDone);
         };
         checked.show_fits(self.kinds.as_slice());
         checked.show();
         shares.show();
-        shares.commit_one(rt, &self.lines, turn.alloc, op, receipt)
+        shares.commit_one(rt, &self.lines, call.alloc, op, receipt)
     }
 
-    /// Runs a transaction on its channels: at once if it can and there is no gate, and else as `run_held` does. Returns
-    /// `None` if it committed, and its receipt is then in place of the given one. Returns the cause if it must be
+    /// Runs a transaction on its channels: at once if it can and there is no gate, and else as `run_held` does. The
+    /// given receipt has the tag to run with: the seat's next serial and its last stamp. Returns `None` if the
+    /// transaction committed, and its receipt is then in place of the given one. Returns the cause if it must be
     /// retried.
     fn run<R: Wait, G: Gate>(
         &self,
         rt: &R,
-        turn: &Turn<'_>,
+        call: &Call<'_>,
         shares: &mut SeatShares<K>,
         gate: Option<&mut G>,
         receipt: &mut Receipt,
     ) -> Result<Option<Cause>, Stop>
         requires of { line_ids shares.old ≡ self.now.lines.all }
-        requires fits { Fits (slice_get self.now.kinds) turn.now.checked.now.steps }
-        ensures outcome { let plan = turn.now.checked.now in IfOk result (λ ended. (m : Map) × AreKnown shares.old m
+        requires fits { Fits (slice_get self.now.kinds) call.now.checked.now.steps }
+        ensures outcome { let plan = call.now.checked.now in IfOk result (λ ended. (m : Map) × AreKnown shares.old m
             × Answers (kept_tag m receipt.old.tag plan.declared)
             (transaction m receipt.old.tag plan.declared plan.steps) (ran_of ended receipt.new)) }
-        ensures stopped { let plan = turn.now.checked.now in IfErr result (λ stop. stop ≢ Stop.NoMemory
+        ensures stopped { let plan = call.now.checked.now in IfErr result (λ stop. stop ≢ Stop.NoMemory
             → (m : Map) × AreKnown shares.old m
             × (transaction m receipt.old.tag plan.declared plan.steps ≡ Aborted stop)) }
         ensures kept { IfOk result (λ ended. IfNone ended
-            (IsKeptWith receipt.old.tag turn.now.checked.now shares.old shares.new receipt.new)) }
+            (IsKeptWith receipt.old.tag call.now.checked.now shares.old shares.new receipt.new)) }
         ensures retried { IfOk result (λ ended. IfSome ended (λ cause. shares.new ≡ shares.old)) }
         ensures lines { line_ids shares.new ≡ line_ids shares.old }
         ensures same { OnErr result (shares.new ≡ shares.old) }
     {
         if gate.is_some() {
-            return self.run_in_place(rt, turn, shares, gate, receipt);
+            return self.run_in_place(rt, call, shares, gate, receipt);
         }
-        match self.commit_at_once(rt, turn, shares, receipt)? {
+        match self.commit_at_once(rt, call, shares, receipt)? {
             AtOnce::Committed => return Ok(None),
             AtOnce::MustRetry(cause) => return Ok(Some(cause)),
             AtOnce::NotDone => {}
         }
-        match self.commit_move_at_once(rt, turn, shares, receipt)? {
+        match self.commit_move_at_once(rt, call, shares, receipt)? {
             AtOnce::Committed => Ok(None),
             AtOnce::MustRetry(cause) => Ok(Some(cause)),
-            AtOnce::NotDone => self.run_in_place(rt, turn, shares, gate, receipt),
+            AtOnce::NotDone => self.run_in_place(rt, call, shares, gate, receipt),
         }
     }
 
-    /// Runs a transaction as `run_held` does, with its receipt in place of the given one. Returns as `run` does.
+    /// Runs a transaction as `run_held` does, with its receipt in place of the given one. Takes and returns the same as
+    /// `run`.
     #[inline(never)]
     fn run_in_place<R: Wait, G: Gate>(
         &self,
         rt: &R,
-        turn: &Turn<'_>,
+        call: &Call<'_>,
         shares: &mut SeatShares<K>,
         gate: Option<&mut G>,
         receipt: &mut Receipt,
     ) -> Result<Option<Cause>, Stop>
         requires of { line_ids shares.old ≡ self.now.lines.all }
-        requires fits { Fits (slice_get self.now.kinds) turn.now.checked.now.steps }
-        ensures outcome { let plan = turn.now.checked.now in IfOk result (λ ended. (m : Map) × AreKnown shares.old m
+        requires fits { Fits (slice_get self.now.kinds) call.now.checked.now.steps }
+        ensures outcome { let plan = call.now.checked.now in IfOk result (λ ended. (m : Map) × AreKnown shares.old m
             × Answers (kept_tag m receipt.old.tag plan.declared)
             (transaction m receipt.old.tag plan.declared plan.steps) (ran_of ended receipt.new)) }
-        ensures stopped { let plan = turn.now.checked.now in IfErr result (λ stop. stop ≢ Stop.NoMemory
+        ensures stopped { let plan = call.now.checked.now in IfErr result (λ stop. stop ≢ Stop.NoMemory
             → (m : Map) × AreKnown shares.old m
             × (transaction m receipt.old.tag plan.declared plan.steps ≡ Aborted stop)) }
         ensures kept { IfOk result (λ ended. IfNone ended
-            (IsKeptWith receipt.old.tag turn.now.checked.now shares.old shares.new receipt.new)) }
+            (IsKeptWith receipt.old.tag call.now.checked.now shares.old shares.new receipt.new)) }
         ensures retried { IfOk result (λ ended. IfSome ended (λ cause. shares.new ≡ shares.old)) }
         ensures lines { line_ids shares.new ≡ line_ids shares.old }
         ensures same { OnErr result (shares.new ≡ shares.old) }
     {
-        let spent = mem::replace(receipt, Receipt::blank(turn.alloc));
-        match self.run_held(rt, spent, turn, shares, gate)? {
+        let spent = mem::replace(receipt, Receipt::blank(call.alloc));
+        match self.run_held(rt, spent, call, shares, gate)? {
             Ran::Kept(kept) => {
                 *receipt = kept;
                 Ok(None)
@@ -182,25 +186,25 @@ impl<K: Log> Table<K> {
         &self,
         rt: &R,
         spent: Receipt,
-        turn: &Turn<'_>,
+        call: &Call<'_>,
         shares: &mut SeatShares<K>,
         gate: Option<&mut G>,
     ) -> Result<Ran, Stop>
         requires of { line_ids shares.old ≡ self.now.lines.all }
-        requires fits { Fits (slice_get self.now.kinds) turn.now.checked.now.steps }
-        ensures outcome { let plan = turn.now.checked.now in IfOk result (λ ran. (m : Map) × AreKnown shares.old m
+        requires fits { Fits (slice_get self.now.kinds) call.now.checked.now.steps }
+        ensures outcome { let plan = call.now.checked.now in IfOk result (λ ran. (m : Map) × AreKnown shares.old m
             × Answers (kept_tag m spent.tag plan.declared)
             (transaction m spent.tag plan.declared plan.steps) ran) }
-        ensures stopped { let plan = turn.now.checked.now in IfErr result (λ stop. stop ≢ Stop.NoMemory
+        ensures stopped { let plan = call.now.checked.now in IfErr result (λ stop. stop ≢ Stop.NoMemory
             → (m : Map) × AreKnown shares.old m
             × (transaction m spent.tag plan.declared plan.steps ≡ Aborted stop)) }
         ensures kept { IfOk result (λ ran. IfKept ran
-            (IsKeptWith spent.tag turn.now.checked.now shares.old shares.new)) }
+            (IsKeptWith spent.tag call.now.checked.now shares.old shares.new)) }
         ensures retried { IfOk result (λ ran. IfRetry ran (shares.new ≡ shares.old)) }
         ensures lines { line_ids shares.new ≡ line_ids shares.old }
         ensures same { OnErr result (shares.new ≡ shares.old) }
     {
-        let checked = turn.checked;
+        let checked = call.checked;
         let tag = spent.tag;
         checked.show_fits(self.kinds.as_slice());
         checked.show();
@@ -234,10 +238,11 @@ impl<K: Log> Table<K> {
             draft,
         } = seat;
         history.reserve()?;
+        // The draft is blank or a receipt that is no longer read, so each try sets the tag.
         let receipt = &mut draft.receipt;
         receipt.tag = history.next_tag();
-        let turn = Turn { alloc, checked };
-        match self.run(rt, &turn, shares, gate, receipt) {
+        let call = Call { alloc, checked };
+        match self.run(rt, &call, shares, gate, receipt) {
             Ok(None) => {}
             Ok(Some(cause)) => return Ok(Tried::Retry(cause)),
             Err(stop) => return Err(stop),
@@ -266,7 +271,8 @@ impl<K: Log> Table<K> {
         self.attempt_with(rt, alloc, seat, checked, Some(gate))
     }
 
-    /// Tries a transaction once, and then notifies the waiting seats. Calls the gate if there is one.
+    /// Tries a transaction once, and notifies the other seats that wait for what its commit changed. Calls the gate if
+    /// there is one.
     fn attempt_with<S: Receipts, R: Wait, G: Gate>(
         &self,
         rt: &R,

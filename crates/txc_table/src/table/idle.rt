@@ -15,7 +15,7 @@ ghost use Rattle.txc_table.specs.Outcome.{AreLawful, IsTransacted};
 
 use super::Table;
 use super::locked::LockedTable;
-use crate::closing::{draft_for, report};
+use crate::closing::{buffers_for, report};
 use crate::left_seat::LeftSeat;
 use crate::seat::Seat;
 use crate::tried::Tried;
@@ -224,7 +224,7 @@ impl IdleTable {
         ensures again { IfErr result (λ idle. idle ≡ self) }
     {
         let IdleTable { mut locked, left } = self;
-        let Some(draft) = draft_for(&mut locked.lines, alloc, &locked.members) else {
+        let Some(buffers) = buffers_for(&mut locked.lines, alloc, &locked.members) else {
             return Err(IdleTable { locked, left });
         };
         let LockedTable {
@@ -234,6 +234,6 @@ impl IdleTable {
             members,
             wait_queue: _,
         } = locked;
-        Ok(report(rt, lines, &members, left, draft))
+        Ok(report(rt, lines, &members, left, buffers))
     }
 }

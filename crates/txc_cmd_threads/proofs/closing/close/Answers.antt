@@ -46,6 +46,7 @@ returns-in-Ok-finish-clause-ok g c =
 pub retry_stalled-idle-requires-clause-served : goal.retry_stalled-idle-requires-clause-served
 retry_stalled-idle-requires-clause-served g c =
     let seats : List (List CheckedView) = map (λ seat. seat.items) c.args.plans.now in
-    subst (λ (t : TableView). HaveRun t seats c.in-Ok.idle.left c.args.back.ends.items) (sym c.in-Ok.ensures.table)
-    (subst (λ (ls : List LeftSeatView). HaveRun c.args.table seats ls c.args.back.ends.items) (sym c.in-Ok.ensures.left)
+    subst (λ (t : TableView). HaveRun t seats c.in-Ok.idle.left c.args.results.ends.items) (sym c.in-Ok.ensures.table)
+    (subst (λ (ls : List LeftSeatView). HaveRun c.args.table seats ls c.args.results.ends.items)
+    (sym c.in-Ok.ensures.left)
     (record { fits = c.requires.fits; back = c.requires.served }))

@@ -27,8 +27,8 @@ returns-in_default-clause-stuck g c n d below =
     (slice_index_or c.find_ready.new.ends.items n Finished)) (sym c.find_ready.ensures.same.1)
     (c.in_default.ensures.stuck refl n d below)
 
-pub go_on-after-requires-clause-fits : goal.go_on-after-requires-clause-fits
-go_on-after-requires-clause-fits g c =
+pub resume-after-requires-clause-fits : goal.resume-after-requires-clause-fits
+resume-after-requires-clause-fits g c =
     let seats : List (List CheckedView) = map (λ seat. seat.items) c.args.plans.now in
     let within : c.in-Some-find_ready.at < length c.args.plans.now = c.in-Some-find_ready.ensures.ready.0 in
     let below : c.in-Some-find_ready.at < length seats =
@@ -41,8 +41,8 @@ go_on-after-requires-clause-fits g c =
     (λ seat. seat.items) c.args.plans.now c.in-Some-find_ready.at [] c.index-plans-at.result within
     c.index-plans-at.is (c.requires.served.fits c.in-Some-find_ready.at [] below)))
 
-pub go_on-after-requires-clause-stalled : goal.go_on-after-requires-clause-stalled
-go_on-after-requires-clause-stalled g c =
+pub resume-after-requires-clause-stalled : goal.resume-after-requires-clause-stalled
+resume-after-requires-clause-stalled g c =
     let at = c.in-Some-find_ready.at in
     let seats : List (List CheckedView) = map (λ seat. seat.items) c.args.plans.now in
     let within : at < length c.args.plans.now = c.in-Some-find_ready.ensures.ready.0 in
@@ -89,15 +89,16 @@ loop-preserved g c =
     c.find_ready.ensures.back) in (
       tt,
       tt,
-      c.go_on-after.ensures.table ∙ table,
-      c.go_on-after.ensures.others.many
+      c.resume-after.ensures.table ∙ table,
+      c.resume-after.ensures.others.many
           ∙ (ap (λ (ls : List LeftSeatView). length ls) c.find_ready.ensures.same.1 ∙ c.loop.invariant.3),
       c.find_ready.ensures.ended,
-      back_others (decls_of c.args.worked.idle.table.lines) seats c.find_ready.new.idle.left c.go_on-after.result.0.left
-          c.find_ready.new.ends.items at c.go_on-after.result.1 there c.go_on-after.ensures.others
+      back_others (decls_of c.args.worked.idle.table.lines) seats c.find_ready.new.idle.left
+          c.resume-after.result.0.left c.find_ready.new.ends.items at c.resume-after.result.1 there
+          c.resume-after.ensures.others
           (λ d. subst (λ (ps : List CheckedView). Serves (decls_of c.args.worked.idle.table.lines) ps (untouched at)
-          (slice_index_or c.go_on-after.result.0.left at d).sitting c.go_on-after.result.1) own
+          (slice_index_or c.resume-after.result.0.left at d).sitting c.resume-after.result.1) own
           (subst (λ (t : TableView). Serves (decls_of t.lines) c.as_slice.result.now (untouched at)
-          (slice_index_or c.go_on-after.result.0.left at d).sitting c.go_on-after.result.1) table
-          (c.go_on-after.ensures.serves d))) back,
+          (slice_index_or c.resume-after.result.0.left at d).sitting c.resume-after.result.1) table
+          (c.resume-after.ensures.serves d))) back,
     )

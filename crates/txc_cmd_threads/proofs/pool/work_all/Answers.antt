@@ -54,7 +54,7 @@ returns-clause-back g c =
     let jobs = c.make_jobs.new.jobs in
     let plans = map (λ seat. seat.items) c.args.pool.plans.now in
     let lent : vec_len jobs ≡ length c.args.pool.plans.now = c.make_jobs.ensures.len in
-    IfOk-weaker c.run_jobs.result _ _ (λ back it-is.
+    IfOk-weaker c.run_jobs.result _ _ (λ results it-is.
     let served = it-is.0 in
     let all = it-is.1 in
     let sorted = it-is.2 in
@@ -74,7 +74,7 @@ returns-clause-back g c =
           let did = all.each k j o in_jobs (slice_index_or c.args.seats.items k s) is.2 in
           let fresh : (slice_index_or c.args.seats.items k s).sitting ≡ untouched k = c.requires.fresh k s in_seats in
           subst (λ (e : SeatEnd). HasServed c.args.pool.table.now (slice_index_or plans k []) (untouched k)
-          (slice_index_or back.left.items k d) e) (sym it.1)
+          (slice_index_or results.left.items k d) e) (sym it.1)
           (subst (λ (l : LeftSeatView). HasServed c.args.pool.table.now (slice_index_or plans k []) (untouched k) l
           (slice_index_or served k o).end) (sym it.0)
           (subst (λ (b : Sitting). HasServed c.args.pool.table.now (slice_index_or plans k []) b

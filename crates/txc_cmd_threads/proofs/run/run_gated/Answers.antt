@@ -31,22 +31,22 @@ work_all-requires-clause-fresh g c κs within = λ k s below.
 
 pub close-requires : goal.close-requires
 close-requires g c =
-    let back = c.in_ok-back.back in
-    let all = c.in_ok-back.ensures.back in
+    let results = c.in_ok-results.results in
+    let all = c.in_ok-results.ensures.back in
     let built = c.in-Ok.ensures.ok in
     let plans : List (List CheckedView) = map (λ seat. seat.items) c.seats-plans.result.now in
     let many : length plans ≡ length c.seats-plans.result.now =
     length-map c.seats-plans.result.now (λ seat. seat.items) in
-    let here : length back.left.items ≡ length plans = sym back.left.ok.0 ∙ all.left ∙ sym many in
-    let served : HaveServed (decls_of c.in-Ok.made.0.lines) plans back.left.items back.ends.items =
+    let here : length results.left.items ≡ length plans = sym results.left.ok.0 ∙ all.left ∙ sym many in
+    let served : HaveServed (decls_of c.in-Ok.made.0.lines) plans results.left.items results.ends.items =
     λ k d below. (all.each k d (subst (λ n. k < n) many below)).serves in
-    let number = back_number (decls_of c.in-Ok.made.0.lines) plans back.left.items back.ends.items served in
+    let number = back_number (decls_of c.in-Ok.made.0.lines) plans results.left.items results.ends.items served in
     let seats : c.in-Ok.made.0.seats ≡ length plans = built.its_seats ∙ sym many in
     record {
       back = record {
-        of = are_of c.in-Ok.made.0.lines back.left.items
+        of = are_of c.in-Ok.made.0.lines results.left.items
             (λ k l below. (all.each k l (subst (λ n. k < n) (here ∙ many) below)).of);
-        all = none_missing c.in-Ok.made.0.seats back.left.items (here ∙ sym seats)
+        all = none_missing c.in-Ok.made.0.seats results.left.items (here ∙ sym seats)
             (λ k l below. number k l (subst (λ n. k < n) seats below));
       };
       left = all.left;

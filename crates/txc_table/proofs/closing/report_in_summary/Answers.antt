@@ -20,10 +20,10 @@ returns-in-Ok-summaries-clause-ok g c =
     (subst (λ (ds : List Decl). AreAccounts ds (helds_of channels) (length channels) briefs.accounts)
     (declared_in channels) briefs.are) in
     record {
-      report = record { accounts = briefs.accounts; receipts = receipts_of c.close.new.done.items };
+      report = record { accounts = briefs.accounts; receipts = receipts_of c.close.new.histories.items };
       standing = subst (λ (cs : List LedgeredView). IsStanding (lines_of cs) c.args.members.now.seats
           c.args.left.items
-          (record { accounts = briefs.accounts; receipts = receipts_of c.close.new.done.items }))
+          (record { accounts = briefs.accounts; receipts = receipts_of c.close.new.histories.items }))
           (same ∙ c.no_shares.ensures.same) (c.close.ensures.report briefs.accounts are);
       summarized = briefs.summarized;
     }

@@ -6,7 +6,7 @@ use Rattle.txc_table.proofs.closing.write_out.Given as goal
 
 abbrev pub invariant-loop-one : goal.invariant-loop-one
 invariant-loop-one l = record {
-  all : l.receipts.items ++ receipts_of (into_iter_items l.one-iterator) ≡ receipts_of l.fn.done.items;
+  all : l.receipts.items ++ receipts_of (into_iter_items l.one-iterator) ≡ receipts_of l.fn.histories.items;
   left : into_iter_len l.one-iterator ≡ length (into_iter_items l.one-iterator);
   room : vec_len l.receipts + length (into_iter_items l.one-iterator) ≤ vec_capacity l.receipts;
 }

@@ -106,14 +106,14 @@ loop-number-preserved g c =
     let shares : List SeatShareView = c.history.inside.shares in
     let receipts : List Receipt = c.history.inside.history.sitting.receipts in
     let plans : List CheckedView = c.history.inside.history.sitting.plans in
-    let before : List (List Receipt) = receipts_of c.loop-number.done.items in
+    let before : List (List Receipt) = receipts_of c.loop-number.histories.items in
     let after : List (List Receipt) = receipts_of c.push_reserved.new.self.items in
-    let plans_before : List (List CheckedView) = plans_of c.loop-number.done.items in
+    let plans_before : List (List CheckedView) = plans_of c.loop-number.histories.items in
     let plans_after : List (List CheckedView) = plans_of c.push_reserved.new.self.items in
     let push : after ≡ before ++ receipts ∷ [] =
-    receipts_more c.loop-number.done.items c.push_reserved.new.self.items _ c.push_reserved.ensures.items in
+    receipts_more c.loop-number.histories.items c.push_reserved.new.self.items _ c.push_reserved.ensures.items in
     let plans_push : plans_after ≡ plans_before ++ plans ∷ [] =
-    plans_more c.loop-number.done.items c.push_reserved.new.self.items _ c.push_reserved.ensures.items in
+    plans_more c.loop-number.histories.items c.push_reserved.new.self.items _ c.push_reserved.ensures.items in
     let many : length plans_before ≡ c.loop-number.number = even_length plans_before before inv.even ∙ inv.many in
     let from = inv.from out.at c.take_out.result.sitting out.was in
     let number : c.history.inside.history.sitting.number ≡ c.loop-number.number =

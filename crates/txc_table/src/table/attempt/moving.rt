@@ -14,7 +14,7 @@ ghost use Rattle.txc_table_lines.specs.OneOperation.{AreKnown};
 ghost use Rattle.txc_table.specs.Attempt.{IsKeptWith};
 ghost use Rattle.txc_table.specs.Outcome.{Answers};
 
-use super::Turn;
+use super::Call;
 use crate::table::Table;
 use std::alloc::AllocError;
 use std::sync::Wait;
@@ -80,26 +80,26 @@ impl<K: Log> Table<K> {
     pub(super) fn commit_move_at_once<R: Wait>(
         &self,
         rt: &R,
-        turn: &Turn<'_>,
+        call: &Call<'_>,
         shares: &mut SeatShares<K>,
         receipt: &mut Receipt,
     ) -> Result<AtOnce, AllocError>
         requires of { line_ids shares.old ≡ self.now.lines.all }
-        requires fits { Fits (slice_get self.now.kinds) turn.now.checked.now.steps }
-        ensures outcome { let plan = turn.now.checked.now in IfOk result (λ is. is ≡ AtOnce.Committed
+        requires fits { Fits (slice_get self.now.kinds) call.now.checked.now.steps }
+        ensures outcome { let plan = call.now.checked.now in IfOk result (λ is. is ≡ AtOnce.Committed
             → (m : Map) × AreKnown shares.old m × Answers (kept_tag m receipt.old.tag plan.declared)
             (transaction m receipt.old.tag plan.declared plan.steps) (RanKept receipt.new)) }
-        ensures retry { let plan = turn.now.checked.now in (cause : Causes) → IfOk result (λ is.
+        ensures retry { let plan = call.now.checked.now in (cause : Causes) → IfOk result (λ is.
             is ≡ AtOnce.MustRetry cause → (m : Map) × AreKnown shares.old m
             × (transaction m receipt.old.tag plan.declared plan.steps ≡ Again cause)) }
         ensures kept { IfOk result (λ is. is ≡ AtOnce.Committed
-            → IsKeptWith receipt.old.tag turn.now.checked.now shares.old shares.new receipt.new) }
+            → IsKeptWith receipt.old.tag call.now.checked.now shares.old shares.new receipt.new) }
         ensures left { IfOk result (λ is. is ≢ AtOnce.Committed
             → (shares.new ≡ shares.old) × (receipt.new.tag ≡ receipt.old.tag)) }
         ensures lines { line_ids shares.new ≡ line_ids shares.old }
         ensures same { OnErr result (shares.new ≡ shares.old) }
     {
-        let checked = turn.checked;
+        let checked = call.checked;
         let Some(what) = only_move(checked) else {
             return Ok(AtOnce::NotDone);
         };

@@ -6,7 +6,7 @@ use Rattle.txc_txn.specs.Maps.{kinds_of}
 use Rattle.txc_txn.specs.Plain.{chan_in}
 use Rattle.txc_txn.specs.Transaction.{kept_tag, transaction}
 use Rattle.txc_txn.proofs.KindsKept.{kinds_kept}
-use Rattle.yalwythen_domain.specs.declared.channels.Halted.TheVariants.{Stopped}
+use Rattle.yalwythen_domain.specs.declared.channels.RunError.TheVariants.{Stopped}
 use Rattle.yalwythen_domain.specs.Ending.{ComesTo}
 use Rattle.yalwythen_domain.proofs.Coming.{comes}
 use Rattle.yalwythen_domain.proofs.channels.run_on.Goals as goal

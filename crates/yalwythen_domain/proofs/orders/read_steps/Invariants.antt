@@ -5,7 +5,7 @@ use Rattle.yalwythen_domain.proofs.orders.read_steps.Given as goal
 
 abbrev pub invariant-loop-order : goal.invariant-loop-order
 invariant-loop-order l = record {
-  forks : All IsPlain l.orders → l.reading.forks.items ≡ [];
-  tokens : map Some (read_so_far l.reading.forks.items l.reading.steps.items)
+  nested : All IsPlain l.orders → l.reading.nested.items ≡ [];
+  tokens : map Some (read_so_far l.reading.nested.items l.reading.steps.items)
       ≡ map token_of (take l.order-index l.orders);
 }

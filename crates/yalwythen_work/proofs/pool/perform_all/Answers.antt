@@ -4,7 +4,7 @@ use Rattle.yalwythen_work.proofs.pool.perform_all.Goals as goal
 
 pub returns : goal.returns
 returns g c = record {
-  came = IfOk-weaker c.all_there.result _ _ (λ all same.
+  came = IfOk-weaker c.collect_outputs.result _ _ (λ all same.
       came_ok g.J.Task.Does c.args.jobs.items c.in_ok-outputs.outputs.items all.items same
-      c.in_ok-outputs.ensures.came) c.all_there.ensures;
+      c.in_ok-outputs.ensures.came) c.collect_outputs.ensures;
 }

@@ -28,11 +28,11 @@ perform_all-requires-send-L g c κs within =
 
 pub perform_all-requires-clause-can : goal.perform_all-requires-clause-can
 perform_all-requires-clause-can g c κs within = λ k j below.
-    let here : k < vec_len c.args.workers = subst (λ n. k < n) c.send_off.ensures.len below in
+    let here : k < vec_len c.args.workers = subst (λ n. k < n) c.make_jobs.ensures.len below in
     let seat : k < vec_len c.args.seats = subst (λ n. k < n) c.requires.workers here in
     let s = some_of c.args.seats.items k (subst (λ n. k < n) c.args.seats.ok.0 seat) in
     let w = some_of c.args.workers.items k (subst (λ n. k < n) c.args.workers.ok.0 here) in
-    let is = c.send_off.ensures.each k j s w below in
+    let is = c.make_jobs.ensures.each k j s w below in
     let fresh = c.requires.fresh k s seat in (
       slice_index_or c.args.seats.items k s,
       slice_index_or c.args.workers.items k w,
@@ -45,15 +45,16 @@ pub returns-clause-len : goal.returns-clause-len
 returns-clause-len g c =
     let all = c.in_ok-served.ensures.came in
     let many : vec_len c.in_ok-served.served ≡ vec_len c.args.workers = c.in_ok-served.served.ok.0 ∙ all.many
-    ∙ sym c.send_off.new.jobs.ok.0 ∙ c.send_off.ensures.len in
-    IfOk-weaker c.sort_out.result _ _ (λ back is. subst (λ n. IsOfAll n back) many is) c.sort_out.ensures.len
+    ∙ sym c.make_jobs.new.jobs.ok.0 ∙ c.make_jobs.ensures.len in
+    IfOk-weaker c.unzip_results.result _ _ (λ results is. subst (λ n. IsOfAll n results) many is)
+    c.unzip_results.ensures.len
 
 pub returns-clause-numbered : goal.returns-clause-numbered
-returns-clause-numbered g c = IfOk-weaker c.sort_out.result _ _ (λ back sorted k l below.
-    let jobs = c.send_off.new.jobs in
+returns-clause-numbered g c = IfOk-weaker c.unzip_results.result _ _ (λ results sorted k l below.
+    let jobs = c.make_jobs.new.jobs in
     let served = c.in_ok-served.served in
     let all = c.in_ok-served.ensures.came in
-    let here : k < vec_len jobs = subst (λ n. k < n) (sym c.send_off.ensures.len) below in
+    let here : k < vec_len jobs = subst (λ n. k < n) (sym c.make_jobs.ensures.len) below in
     let sent : k < length jobs.items = subst (λ n. k < n) jobs.ok.0 here in
     let came : k < length served.items = subst (λ n. k < n) (sym all.many) sent in
     let seat : k < vec_len c.args.seats = subst (λ n. k < n) c.requires.workers below in
@@ -61,19 +62,19 @@ returns-clause-numbered g c = IfOk-weaker c.sort_out.result _ _ (λ back sorted 
     let d = some_of served.items k came in
     let s = some_of c.args.seats.items k (subst (λ n. k < n) c.args.seats.ok.0 seat) in
     let w = some_of c.args.workers.items k (subst (λ n. k < n) c.args.workers.ok.0 below) in
-    let is = c.send_off.ensures.each k j s w here in
+    let is = c.make_jobs.ensures.each k j s w here in
     let does = all.each k j d sent (slice_index_or c.args.seats.items k s) (slice_index_or c.args.workers.items k w)
     is.0 is.1 in
     let at = sorted k d l w (slice_index_or served.items k d).plans (subst (λ n. k < n) (sym served.ok.0) came) in
     ap (λ (x : LeftSeatView). x.sitting.number) at.0 ∙ does.0.number
-    ∙ ap (λ (x : Sitting). x.number) (c.requires.fresh k s seat)) c.sort_out.ensures.each
+    ∙ ap (λ (x : Sitting). x.number) (c.requires.fresh k s seat)) c.unzip_results.ensures.each
 
 pub returns-clause-of : goal.returns-clause-of
-returns-clause-of g c = IfOk-weaker c.sort_out.result _ _ (λ back sorted k l below.
-    let jobs = c.send_off.new.jobs in
+returns-clause-of g c = IfOk-weaker c.unzip_results.result _ _ (λ results sorted k l below.
+    let jobs = c.make_jobs.new.jobs in
     let served = c.in_ok-served.served in
     let all = c.in_ok-served.ensures.came in
-    let here : k < vec_len jobs = subst (λ n. k < n) (sym c.send_off.ensures.len) below in
+    let here : k < vec_len jobs = subst (λ n. k < n) (sym c.make_jobs.ensures.len) below in
     let sent : k < length jobs.items = subst (λ n. k < n) jobs.ok.0 here in
     let came : k < length served.items = subst (λ n. k < n) (sym all.many) sent in
     let seat : k < vec_len c.args.seats = subst (λ n. k < n) c.requires.workers below in
@@ -81,18 +82,18 @@ returns-clause-of g c = IfOk-weaker c.sort_out.result _ _ (λ back sorted k l be
     let d = some_of served.items k came in
     let s = some_of c.args.seats.items k (subst (λ n. k < n) c.args.seats.ok.0 seat) in
     let w = some_of c.args.workers.items k (subst (λ n. k < n) c.args.workers.ok.0 below) in
-    let is = c.send_off.ensures.each k j s w here in
+    let is = c.make_jobs.ensures.each k j s w here in
     let does = all.each k j d sent (slice_index_or c.args.seats.items k s) (slice_index_or c.args.workers.items k w)
     is.0 is.1 in
     let at = sorted k d l w (slice_index_or served.items k d).plans (subst (λ n. k < n) (sym served.ok.0) came) in
-    ap (λ (x : LeftSeatView). x.lines) at.0 ∙ does.0.lines ∙ c.requires.of k s seat) c.sort_out.ensures.each
+    ap (λ (x : LeftSeatView). x.lines) at.0 ∙ does.0.lines ∙ c.requires.of k s seat) c.unzip_results.ensures.each
 
 pub returns-clause-noted : goal.returns-clause-noted
-returns-clause-noted g c = IfOk-weaker c.sort_out.result _ _ (λ back sorted notes k l p below.
-    let jobs = c.send_off.new.jobs in
+returns-clause-noted g c = IfOk-weaker c.unzip_results.result _ _ (λ results sorted notes k l p below.
+    let jobs = c.make_jobs.new.jobs in
     let served = c.in_ok-served.served in
     let all = c.in_ok-served.ensures.came in
-    let here : k < vec_len jobs = subst (λ n. k < n) (sym c.send_off.ensures.len) below in
+    let here : k < vec_len jobs = subst (λ n. k < n) (sym c.make_jobs.ensures.len) below in
     let sent : k < length jobs.items = subst (λ n. k < n) jobs.ok.0 here in
     let came : k < length served.items = subst (λ n. k < n) (sym all.many) sent in
     let seat : k < vec_len c.args.seats = subst (λ n. k < n) c.requires.workers below in
@@ -100,28 +101,29 @@ returns-clause-noted g c = IfOk-weaker c.sort_out.result _ _ (λ back sorted not
     let d = some_of served.items k came in
     let s = some_of c.args.seats.items k (subst (λ n. k < n) c.args.seats.ok.0 seat) in
     let w = some_of c.args.workers.items k (subst (λ n. k < n) c.args.workers.ok.0 below) in
-    let is = c.send_off.ensures.each k j s w here in
+    let is = c.make_jobs.ensures.each k j s w here in
     let does = all.each k j d sent (slice_index_or c.args.seats.items k s) (slice_index_or c.args.workers.items k w)
     is.0 is.1 in
     let at = sorted k d l w p (subst (λ n. k < n) (sym served.ok.0) came) in
     ap (λ (b : PlansView). b.kept) at.2 ∙ does.0.noted (subst (λ (x : Setup). IsTrue x.notes) (sym is.2) notes)
-    ∙ ap (λ (x : LeftSeatView). x.sitting.plans) (sym at.0)) c.sort_out.ensures.each
+    ∙ ap (λ (x : LeftSeatView). x.sitting.plans) (sym at.0)) c.unzip_results.ensures.each
 
 pub returns-clause-came : goal.returns-clause-came
-returns-clause-came g c = IfOk-weaker c.sort_out.result _ _ (λ back sorted k b a below.
-    let jobs = c.send_off.new.jobs in
+returns-clause-came g c = IfOk-weaker c.unzip_results.result _ _ (λ results sorted k b a below.
+    let jobs = c.make_jobs.new.jobs in
     let served = c.in_ok-served.served in
     let all = c.in_ok-served.ensures.came in
-    let here : k < vec_len jobs = subst (λ n. k < n) (sym c.send_off.ensures.len) below in
+    let here : k < vec_len jobs = subst (λ n. k < n) (sym c.make_jobs.ensures.len) below in
     let sent : k < length jobs.items = subst (λ n. k < n) jobs.ok.0 here in
     let came : k < length served.items = subst (λ n. k < n) (sym all.many) sent in
     let seat : k < vec_len c.args.seats = subst (λ n. k < n) c.requires.workers below in
     let j = some_of jobs.items k sent in
     let d = some_of served.items k came in
     let s = some_of c.args.seats.items k (subst (λ n. k < n) c.args.seats.ok.0 seat) in
-    let is = c.send_off.ensures.each k j s b here in
+    let is = c.make_jobs.ensures.each k j s b here in
     let does = all.each k j d sent (slice_index_or c.args.seats.items k s) (slice_index_or c.args.workers.items k b)
     is.0 is.1 in
     let at = sorted k d (slice_index_or served.items k d).left a (slice_index_or served.items k d).plans
     (subst (λ n. k < n) (sym served.ok.0) came) in
-    subst (λ x. g.Q.Role.Came (slice_index_or c.args.workers.items k b) x) (sym at.1) does.1) c.sort_out.ensures.each
+    subst (λ x. g.Q.Role.Came (slice_index_or c.args.workers.items k b) x) (sym at.1) does.1)
+    c.unzip_results.ensures.each

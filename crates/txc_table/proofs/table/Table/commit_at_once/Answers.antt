@@ -20,12 +20,12 @@ pub commit_one-requires-clause-there : goal.commit_one-requires-clause-there
 commit_one-requires-clause-there g c =
     let kinds : c.as_slice.result.now ≡ c.args.self.now.kinds =
     c.as_slice.ensures ∙ ap (λ (t : TableView). t.kinds) c.self.view_is in
-    let fits : Fits (slice_get c.as_slice.result.now) c.args.turn.now.checked.now.steps =
-    subst (λ (ks : List Kind). Fits (slice_get ks) c.args.turn.now.checked.now.steps) (sym kinds) c.requires.fits in
+    let fits : Fits (slice_get c.as_slice.result.now) c.args.call.now.checked.now.steps =
+    subst (λ (ks : List Kind). Fits (slice_get ks) c.args.call.now.checked.now.steps) (sym kinds) c.requires.fits in
     kinds_within c.as_slice.result.now c.self.inside.lines (chan_of c.in-Some.op.now)
     (c.as_slice.ensures ∙ c.self.invariant.declared)
     (c.show_fits.ensures.there fits (chan_of c.in-Some.op.now)
-    (only_declared c.args.turn.now.checked.now.declared c.in-Some.op.now c.in-Some.ensures.some.1))
+    (only_declared c.args.call.now.checked.now.declared c.in-Some.op.now c.in-Some.ensures.some.1))
 
 pub commit_one-requires-clause-suits : goal.commit_one-requires-clause-suits
 commit_one-requires-clause-suits g c =
@@ -33,11 +33,11 @@ commit_one-requires-clause-suits g c =
     c.requires.of ∙ sym (ap (λ (t : TableView). t.lines.all) c.self.view_is) in
     let kinds : c.as_slice.result.now ≡ c.args.self.now.kinds =
     c.as_slice.ensures ∙ ap (λ (t : TableView). t.kinds) c.self.view_is in
-    let fits : Fits (slice_get c.as_slice.result.now) c.args.turn.now.checked.now.steps =
-    subst (λ (ks : List Kind). Fits (slice_get ks) c.args.turn.now.checked.now.steps) (sym kinds) c.requires.fits in
+    let fits : Fits (slice_get c.as_slice.result.now) c.args.call.now.checked.now.steps =
+    subst (λ (ks : List Kind). Fits (slice_get ks) c.args.call.now.checked.now.steps) (sym kinds) c.requires.fits in
     let below : chan_of c.in-Some.op.now < length c.as_slice.result.now =
     c.show_fits.ensures.there fits (chan_of c.in-Some.op.now)
-    (only_declared c.args.turn.now.checked.now.declared c.in-Some.op.now c.in-Some.ensures.some.1) in
+    (only_declared c.args.call.now.checked.now.declared c.in-Some.op.now c.in-Some.ensures.some.1) in
     let there : chan_of c.in-Some.op.now < length c.args.shares.now = omega (
       arith,
       commit_one-requires-clause-there g c,
@@ -45,7 +45,7 @@ commit_one-requires-clause-suits g c =
       length-map c.args.shares.now (λ (share : SeatShareView). share.line),
     ) in
     line_suits c.args.shares.now c.self.inside.lines c.as_slice.result.now c.in-Some.op.now
-    c.args.turn.now.checked.now.steps of (c.as_slice.ensures ∙ c.self.invariant.declared) c.show-2.ensures below there
+    c.args.call.now.checked.now.steps of (c.as_slice.ensures ∙ c.self.invariant.declared) c.show-2.ensures below there
     c.in-Some.ensures.some.0 fits
 
 pub returns-clause-kept : goal.returns-clause-kept
@@ -59,13 +59,13 @@ returns-clause-kept g c =
       length-map c.args.shares.now (λ (share : SeatShareView). share.line),
     ) in
     ok_map _ _ c.commit_one.result (λ is committed yes-it-is. kept_at_once c.args.receipt.now.tag
-    c.args.turn.now.checked.now c.in-Some.op.now c.args.shares.now c.commit_one.new.self c.commit_one.new.receipt
+    c.args.call.now.checked.now c.in-Some.op.now c.args.shares.now c.commit_one.new.self c.commit_one.new.receipt
     c.in-Some.ensures.some.0 c.in-Some.ensures.some.1 there c.show.ensures.names c.commit_one.ensures.lines
     (committed yes-it-is)) c.commit_one.ensures.done
 
 pub returns-clause-retry : goal.returns-clause-retry
 returns-clause-retry g c cause =
-    ok_map _ _ c.commit_one.result (λ is must same. retried_at_once c.args.receipt.now.tag c.args.turn.now.checked.now
+    ok_map _ _ c.commit_one.result (λ is must same. retried_at_once c.args.receipt.now.tag c.args.call.now.checked.now
     c.in-Some.op.now c.args.shares.now cause c.in-Some.ensures.some.0 c.in-Some.ensures.some.1
     (must same))
     (c.commit_one.ensures.retry cause)

@@ -22,24 +22,24 @@ pub commit_move-requires-clause-from : goal.commit_move-requires-clause-from
 commit_move-requires-clause-from g c =
     let kinds : c.as_slice.result.now ≡ c.args.self.now.kinds =
     c.as_slice.ensures ∙ ap (λ (t : TableView). t.kinds) c.self.view_is in
-    let fits : Fits (slice_get c.as_slice.result.now) c.args.turn.now.checked.now.steps =
-    subst (λ (ks : List Kind). Fits (slice_get ks) c.args.turn.now.checked.now.steps) (sym kinds) c.requires.fits in
+    let fits : Fits (slice_get c.as_slice.result.now) c.args.call.now.checked.now.steps =
+    subst (λ (ks : List Kind). Fits (slice_get ks) c.args.call.now.checked.now.steps) (sym kinds) c.requires.fits in
     kinds_within c.as_slice.result.now c.self.inside.lines c.in-Some.what.from
     (c.as_slice.ensures ∙ c.self.invariant.declared)
     (c.show_fits.ensures.there fits c.in-Some.what.from
-    (from_declared c.args.turn.now.checked.now.declared c.in-Some.what.from c.in-Some.what.to
+    (from_declared c.args.call.now.checked.now.declared c.in-Some.what.from c.in-Some.what.to
     c.in-Some.ensures.declared))
 
 pub commit_move-requires-clause-to : goal.commit_move-requires-clause-to
 commit_move-requires-clause-to g c =
     let kinds : c.as_slice.result.now ≡ c.args.self.now.kinds =
     c.as_slice.ensures ∙ ap (λ (t : TableView). t.kinds) c.self.view_is in
-    let fits : Fits (slice_get c.as_slice.result.now) c.args.turn.now.checked.now.steps =
-    subst (λ (ks : List Kind). Fits (slice_get ks) c.args.turn.now.checked.now.steps) (sym kinds) c.requires.fits in
+    let fits : Fits (slice_get c.as_slice.result.now) c.args.call.now.checked.now.steps =
+    subst (λ (ks : List Kind). Fits (slice_get ks) c.args.call.now.checked.now.steps) (sym kinds) c.requires.fits in
     kinds_within c.as_slice.result.now c.self.inside.lines c.in-Some.what.to
     (c.as_slice.ensures ∙ c.self.invariant.declared)
     (c.show_fits.ensures.there fits c.in-Some.what.to
-    (to_declared c.args.turn.now.checked.now.declared c.in-Some.what.from c.in-Some.what.to
+    (to_declared c.args.call.now.checked.now.declared c.in-Some.what.from c.in-Some.what.to
     c.in-Some.ensures.declared))
 
 pub commit_move-requires-clause-reads : goal.commit_move-requires-clause-reads
@@ -48,11 +48,11 @@ commit_move-requires-clause-reads g c =
     c.requires.of ∙ sym (ap (λ (t : TableView). t.lines.all) c.self.view_is) in
     let kinds : c.as_slice.result.now ≡ c.args.self.now.kinds =
     c.as_slice.ensures ∙ ap (λ (t : TableView). t.kinds) c.self.view_is in
-    let fits : Fits (slice_get c.as_slice.result.now) c.args.turn.now.checked.now.steps =
-    subst (λ (ks : List Kind). Fits (slice_get ks) c.args.turn.now.checked.now.steps) (sym kinds) c.requires.fits in
+    let fits : Fits (slice_get c.as_slice.result.now) c.args.call.now.checked.now.steps =
+    subst (λ (ks : List Kind). Fits (slice_get ks) c.args.call.now.checked.now.steps) (sym kinds) c.requires.fits in
     let below : c.in-Some.what.from < length c.as_slice.result.now =
     c.show_fits.ensures.there fits c.in-Some.what.from
-    (from_declared c.args.turn.now.checked.now.declared c.in-Some.what.from c.in-Some.what.to
+    (from_declared c.args.call.now.checked.now.declared c.in-Some.what.from c.in-Some.what.to
     c.in-Some.ensures.declared) in
     let there : c.in-Some.what.from < length c.args.shares.now = omega (
       arith,
@@ -62,7 +62,7 @@ commit_move-requires-clause-reads g c =
     ) in
     line_fits c.args.shares.now c.self.inside.lines c.as_slice.result.now
     (Read c.in-Some.what.from c.in-Some.what.reader) of (c.as_slice.ensures ∙ c.self.invariant.declared)
-    c.show-2.ensures below there (read_fits c.as_slice.result.now c.args.turn.now.checked.now.steps
+    c.show-2.ensures below there (read_fits c.as_slice.result.now c.args.call.now.checked.now.steps
     c.in-Some.what.from c.in-Some.what.reader c.in-Some.what.to c.in-Some.ensures.steps fits)
 
 pub commit_move-requires-clause-writes : goal.commit_move-requires-clause-writes
@@ -71,11 +71,11 @@ commit_move-requires-clause-writes g c =
     c.requires.of ∙ sym (ap (λ (t : TableView). t.lines.all) c.self.view_is) in
     let kinds : c.as_slice.result.now ≡ c.args.self.now.kinds =
     c.as_slice.ensures ∙ ap (λ (t : TableView). t.kinds) c.self.view_is in
-    let fits : Fits (slice_get c.as_slice.result.now) c.args.turn.now.checked.now.steps =
-    subst (λ (ks : List Kind). Fits (slice_get ks) c.args.turn.now.checked.now.steps) (sym kinds) c.requires.fits in
+    let fits : Fits (slice_get c.as_slice.result.now) c.args.call.now.checked.now.steps =
+    subst (λ (ks : List Kind). Fits (slice_get ks) c.args.call.now.checked.now.steps) (sym kinds) c.requires.fits in
     let below : c.in-Some.what.to < length c.as_slice.result.now =
     c.show_fits.ensures.there fits c.in-Some.what.to
-    (to_declared c.args.turn.now.checked.now.declared c.in-Some.what.from c.in-Some.what.to
+    (to_declared c.args.call.now.checked.now.declared c.in-Some.what.from c.in-Some.what.to
     c.in-Some.ensures.declared) in
     let there : c.in-Some.what.to < length c.args.shares.now = omega (
       arith,
@@ -85,20 +85,20 @@ commit_move-requires-clause-writes g c =
     ) in
     line_fits c.args.shares.now c.self.inside.lines c.as_slice.result.now (Write c.in-Some.what.to Last) of
     (c.as_slice.ensures ∙ c.self.invariant.declared) c.show-2.ensures below there
-    (write_fits c.as_slice.result.now c.args.turn.now.checked.now.steps c.in-Some.what.from c.in-Some.what.reader
+    (write_fits c.as_slice.result.now c.args.call.now.checked.now.steps c.in-Some.what.from c.in-Some.what.reader
     c.in-Some.what.to c.in-Some.ensures.steps fits)
 
 pub returns-clause-outcome : goal.returns-clause-outcome
 returns-clause-outcome g c =
     ok_map _ _ c.commit_move.result (λ is committed at-once. returned_move c.args.receipt.now.tag
-    c.args.turn.now.checked.now c.in-Some.what.from c.in-Some.what.reader c.in-Some.what.to c.args.shares.now
+    c.args.call.now.checked.now c.in-Some.what.from c.in-Some.what.reader c.in-Some.what.to c.args.shares.now
     c.commit_move.new.self
     c.commit_move.new.receipt c.in-Some.ensures.steps c.in-Some.ensures.declared (committed at-once))
     c.commit_move.ensures.done
 
 pub returns-clause-retry : goal.returns-clause-retry
 returns-clause-retry g c cause =
-    ok_map _ _ c.commit_move.result (λ is must same. retried_move c.args.receipt.now.tag c.args.turn.now.checked.now
+    ok_map _ _ c.commit_move.result (λ is must same. retried_move c.args.receipt.now.tag c.args.call.now.checked.now
     c.in-Some.what.from c.in-Some.what.reader c.in-Some.what.to c.args.shares.now cause c.in-Some.ensures.steps
     c.in-Some.ensures.declared (must same)) (c.commit_move.ensures.retry cause)
 
@@ -112,7 +112,7 @@ returns-clause-kept g c =
     let to : c.in-Some.what.to < length c.args.shares.now =
     omega (arith, commit_move-requires-clause-to g c.before, ap length of, long) in
     ok_map _ _ c.commit_move.result (λ is committed at-once. kept_move c.args.receipt.now.tag
-    c.args.turn.now.checked.now c.in-Some.what.from c.in-Some.what.reader c.in-Some.what.to c.args.shares.now
+    c.args.call.now.checked.now c.in-Some.what.from c.in-Some.what.reader c.in-Some.what.to c.args.shares.now
     c.commit_move.new.self
     c.commit_move.new.receipt c.in-Some.ensures.steps c.in-Some.ensures.declared from to c.show.ensures.names
     c.commit_move.ensures.lines (committed at-once)) c.commit_move.ensures.done

@@ -18,7 +18,7 @@ not_committed is none same = let never = sym none ∙ same in cc
 
 pub returns-in-Committed-2-clause-outcome : goal.returns-in-Committed-2-clause-outcome
 returns-in-Committed-2-clause-outcome g c =
-    let plan = c.args.turn.now.checked.now in
+    let plan = c.args.call.now.checked.now in
     let left = c.in_ok-commit_at_once.ensures.left (not_committed _ c.in-NotDone.is) in
     subst (λ (shares : List SeatShareView). (m : Map) × AreKnown shares m
     × Answers (kept_tag m c.args.receipt.now.tag plan.declared)
@@ -30,7 +30,7 @@ returns-in-Committed-2-clause-outcome g c =
 
 pub returns-in-NotDone-2-clause-outcome : goal.returns-in-NotDone-2-clause-outcome
 returns-in-NotDone-2-clause-outcome g c =
-    let plan = c.args.turn.now.checked.now in
+    let plan = c.args.call.now.checked.now in
     let left = c.in_ok-commit_at_once.ensures.left (not_committed _ c.in-NotDone.is) in
     let again = c.in_ok-commit_move_at_once.ensures.left (not_committed _ c.in-NotDone-2.is) in
     let shares : c.commit_move_at_once.new.shares ≡ c.args.shares.now = again.0 ∙ left.0 in

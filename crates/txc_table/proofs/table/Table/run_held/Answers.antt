@@ -19,8 +19,8 @@ pub take-guards-requires : goal.take-guards-requires
 take-guards-requires g c =
     let kinds : c.as_slice.result.now ≡ c.args.self.now.kinds =
     c.as_slice.ensures ∙ ap (λ (t : TableView). t.kinds) c.self.view_is in
-    let fits : Fits (slice_get c.as_slice.result.now) c.args.turn.now.checked.now.steps =
-    subst (λ (ks : List Kind). Fits (slice_get ks) c.args.turn.now.checked.now.steps) (sym kinds) c.requires.fits in (
+    let fits : Fits (slice_get c.as_slice.result.now) c.args.call.now.checked.now.steps =
+    subst (λ (ks : List Kind). Fits (slice_get ks) c.args.call.now.checked.now.steps) (sym kinds) c.requires.fits in (
       omega arith,
       (
         c.requires.of ∙ sym (ap (λ (t : TableView). t.lines.all) c.self.view_is),
@@ -28,7 +28,7 @@ take-guards-requires g c =
           subst (All (λ n. n < length c.self.inside.lines)) (sym c.declared.ensures)
               (λ k d below. kinds_within c.as_slice.result.now c.self.inside.lines _ (c.as_slice.ensures
               ∙ c.self.invariant.declared)
-              (c.show_fits.ensures.there fits _ (All-contains_itself c.args.turn.now.checked.now.declared k d below))),
+              (c.show_fits.ensures.there fits _ (All-contains_itself c.args.call.now.checked.now.declared k d below))),
           omega (arith, ap length c.declared.ensures, c.show.ensures.few),
         ),
       ),
@@ -39,8 +39,8 @@ commit-ran-requires g c =
     let m : Map = chans_of c.take-guards.result in
     let kinds : c.as_slice.result.now ≡ c.args.self.now.kinds =
     c.as_slice.ensures ∙ ap (λ (t : TableView). t.kinds) c.self.view_is in
-    let fits : Fits (slice_get c.as_slice.result.now) c.args.turn.now.checked.now.steps =
-    subst (λ (ks : List Kind). Fits (slice_get ks) c.args.turn.now.checked.now.steps) (sym kinds) c.requires.fits in
+    let fits : Fits (slice_get c.as_slice.result.now) c.args.call.now.checked.now.steps =
+    subst (λ (ks : List Kind). Fits (slice_get ks) c.args.call.now.checked.now.steps) (sym kinds) c.requires.fits in
     let of : line_ids c.args.shares.now ≡ c.self.inside.lines =
     c.requires.of ∙ sym (ap (λ (t : TableView). t.lines.all) c.self.view_is) in
     let found : AreKnown c.args.shares.now m =
@@ -70,7 +70,7 @@ returns-clause-outcome g c =
     let of : line_ids c.args.shares.now ≡ c.self.inside.lines =
     c.requires.of ∙ sym (ap (λ (t : TableView). t.lines.all) c.self.view_is) in
     held_answers c.args.shares.now m (chans_of c.commit-ran.new.self) c.args.spent.tag
-    c.args.turn.now.checked.now.declared c.args.turn.now.checked.now.steps c.commit-ran.result
+    c.args.call.now.checked.now.declared c.args.call.now.checked.now.steps c.commit-ran.result
     (known_of c.args.shares.now c.self.inside.lines m of c.take-guards.ensures.known c.take-guards.ensures.since)
     c.commit-ran.ensures.ran
 
@@ -79,8 +79,8 @@ returns-clause-stopped g c =
     let m : Map = chans_of c.take-guards.result in
     let of : line_ids c.args.shares.now ≡ c.self.inside.lines =
     c.requires.of ∙ sym (ap (λ (t : TableView). t.lines.all) c.self.view_is) in
-    held_stop c.args.shares.now m c.args.spent.tag c.args.turn.now.checked.now.declared
-    c.args.turn.now.checked.now.steps c.commit-ran.result
+    held_stop c.args.shares.now m c.args.spent.tag c.args.call.now.checked.now.declared
+    c.args.call.now.checked.now.steps c.commit-ran.result
     (known_of c.args.shares.now c.self.inside.lines m of c.take-guards.ensures.known c.take-guards.ensures.since)
     c.commit-ran.ensures.stopped
 
@@ -92,16 +92,16 @@ returns-clause-kept g c =
     let same : c.take-guards.new.shares ≡ before = c.take-guards.ensures.same in
     let kinds : c.as_slice.result.now ≡ c.args.self.now.kinds =
     c.as_slice.ensures ∙ ap (λ (t : TableView). t.kinds) c.self.view_is in
-    let fits : Fits (slice_get c.as_slice.result.now) c.args.turn.now.checked.now.steps =
-    subst (λ (ks : List Kind). Fits (slice_get ks) c.args.turn.now.checked.now.steps) (sym kinds) c.requires.fits in
+    let fits : Fits (slice_get c.as_slice.result.now) c.args.call.now.checked.now.steps =
+    subst (λ (ks : List Kind). Fits (slice_get ks) c.args.call.now.checked.now.steps) (sym kinds) c.requires.fits in
     let of : line_ids before ≡ c.self.inside.lines =
     c.requires.of ∙ sym (ap (λ (t : TableView). t.lines.all) c.self.view_is) in
     let committed = subst (λ (shares : List SeatShareView). IfOk commit.result (λ ran. IfKept ran (λ receipt. (n : ℕ)
-    → AreCommitted c.args.turn.now.checked.now.declared m (chans_of commit.new.self) receipt shares
+    → AreCommitted c.args.call.now.checked.now.declared m (chans_of commit.new.self) receipt shares
     commit.new.shares n))) same commit.ensures.committed in
     let grew = subst (λ (shares : List SeatShareView). IfOk commit.result
     (λ ran. IfKept ran (λ receipt. OnlyGrew shares commit.new.shares))) same commit.ensures.grew in
-    kept_with c.args.spent.tag c.args.turn.now.checked.now m (chans_of commit.new.self) before commit.new.shares
+    kept_with c.args.spent.tag c.args.call.now.checked.now m (chans_of commit.new.self) before commit.new.shares
     commit.result
     (λ n is. omega (
       arith,

@@ -3,7 +3,7 @@ use Rattle.std.proofs.lemmas.List.{length-map}
 use Rattle.txc_chan.specs.ChanView.{ChanView}
 use Rattle.txc_table_report.specs.Refusal.{refusal_of}
 use Rattle.txc_table_line.specs.Line.{LineId}
-use Rattle.txc_table.specs.Seat.{AreNewRecords, new_seats}
+use Rattle.txc_table.specs.Seat.{AreNewHistories, new_seats}
 use Rattle.txc_table.specs.Table.{IsTabled, line_decls, table_lines}
 use Rattle.txc_table.proofs.Opening.{declared_by, opened_at, tabled}
 use Rattle.txc_table.proofs.table.Table.with_limits.Goals as goal
@@ -43,4 +43,4 @@ make_seats-members-requires-clause-new g c =
     ∙ declared_by (λ held. held.logged) c.in_ok-chans.chans.items c.args.decls.now c.in_ok-chans.ensures.made in
     let many : length c.args.decls.now ≡ length c.in_ok-lines.lines =
     sym (ap length its) ∙ length-map c.in_ok-lines.lines (λ (line : LineId). line.decl) in
-    subst (λ n. AreNewRecords 0 n c.in_ok-histories.histories.items) many c.in_ok-histories.ensures.new
+    subst (λ n. AreNewHistories 0 n c.in_ok-histories.histories.items) many c.in_ok-histories.ensures.new

@@ -35,7 +35,8 @@ count_acts-requires-clause-few g c =
     (g.S.Receipts.all c.self.inside.receipts) c.args.draft.now.value.receipt.acts
     c.self.invariant.tallied
     (subst (λ (r : HistoryView). (n : ℕ) → n < r.channels
-    → count n r.sitting.receipts + count_deeds n c.args.draft.now.value.receipt.acts ≤ GREATEST_NUMBER) (sym c.self.view_is)
+    → count n r.sitting.receipts + count_deeds n c.args.draft.now.value.receipt.acts ≤ GREATEST_NUMBER)
+    (sym c.self.view_is)
     c.requires.few)))
 
 pub invariant_of-self : goal.invariant_of-self
@@ -52,7 +53,8 @@ invariant_of-self g c =
     c.args.draft.now.value.receipt.tag.stamp tallies c.push.new.self) (sym whole)
     (subst (λ (plans : List CheckedView). IsInHistory c.self.inside.number (g.S.Receipts.all c.push_reserved.new.self)
     c.args.draft.now.value.receipt.tag.stamp c.count_acts.new.tallies plans) (sym c.push.ensures)
-    (subst (λ (receipts : List Receipt). IsInHistory c.self.inside.number receipts c.args.draft.now.value.receipt.tag.stamp
+    (subst (λ (receipts : List Receipt). IsInHistory c.self.inside.number receipts
+    c.args.draft.now.value.receipt.tag.stamp
     c.count_acts.new.tallies (c.self.inside.plans ++ c.args.checked.now ∷ [])) (sym c.push_reserved.ensures)
     (recorded_push c.self.inside.number c.self.inside.stamp (g.S.Receipts.all c.self.inside.receipts)
     c.args.draft.now.value.receipt c.self.inside.tallies.items c.count_acts.new.tallies c.self.inside.plans

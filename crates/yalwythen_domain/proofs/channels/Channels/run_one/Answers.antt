@@ -2,7 +2,7 @@ use Rattle.std.proofs.Common.{refl, ap, Ok, Err, [], ◌∷◌, slice_get}
 use Rattle.txc_txn_check.specs.declared.step.Step.TheVariants.{Do}
 use Rattle.txc_txn.specs.Plain.{chan_in}
 use Rattle.txc_txn.proofs.KindsKept.{kinds_kept}
-use Rattle.yalwythen_domain.specs.declared.channels.Halted.TheVariants.{Stopped}
+use Rattle.yalwythen_domain.specs.declared.channels.RunError.TheVariants.{Stopped}
 use Rattle.yalwythen_domain.specs.Channels.{DomainChannels}
 use Rattle.yalwythen_domain.proofs.Alone.{faulty_one, walk_one}
 use Rattle.yalwythen_domain.proofs.Coming.{comes}

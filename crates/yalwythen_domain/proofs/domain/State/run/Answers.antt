@@ -25,15 +25,15 @@ returns-in-Ok-run-clause-failed g c failed =
       ap (λ (s : DomainState). s.last) same,
     )
 
-came : (g : Over) (c : goal.After-said_of_halted g) (tag : Tag) → slice_get c.args.self.now.tags c.args.seat ≡ Some tag
-    → IfOk c.said_of_halted.result (λ said. RanInDomain tag c.args.orders.now c.args.self.now.channels c.run.new.self
+came : (g : Over) (c : goal.After-said_of_error g) (tag : Tag) → slice_get c.args.self.now.tags c.args.seat ≡ Some tag
+    → IfOk c.said_of_error.result (λ said. RanInDomain tag c.args.orders.now c.args.self.now.channels c.run.new.self
     c.args.self.now.last c.self.inside.last said)
 came g c tag at =
     let seen : slice_get c.self.inside.tags.items c.args.seat ≡ Some tag =
     ap (λ (s : DomainState). slice_get s.tags c.args.seat) c.self.view_is ∙ at in
-    both_ok c.said_of_halted.result _ _ _ c.said_of_halted.ensures.said
-    c.said_of_halted.ensures.code (λ said answered code. rw (sym c.self.view_is)
-    (ran_in_domain tag c.index-tag.result.now c.args.orders.now (list_of_steps c.in-Ok.steps) (Err c.in-Err-run.halted)
+    both_ok c.said_of_error.result _ _ _ c.said_of_error.ensures.said
+    c.said_of_error.ensures.code (λ said answered code. rw (sym c.self.view_is)
+    (ran_in_domain tag c.index-tag.result.now c.args.orders.now (list_of_steps c.in-Ok.steps) (Err c.in-Err-run.error)
     c.self.inside.channels c.self.inside.channels c.run.new.self c.self.inside.last c.self.inside.last said
     (c.index-tag.ensures ∙ get_or_from_slice_get c.self.inside.tags.items c.args.seat tag c.index-tag.result.now seen)
     refl c.in-Ok.ensures.written c.in-Err-run.ensures.comes c.in-Err-run.ensures.kinds refl answered))
@@ -42,8 +42,8 @@ pub returns-in-Err-run-clause-ran : goal.returns-in-Err-run-clause-ran
 returns-in-Err-run-clause-ran g c tag at plain = came g c tag at
 
 pub returns-in-Err-run-clause-ran_any : goal.returns-in-Err-run-clause-ran_any
-returns-in-Err-run-clause-ran_any g c tag at = both_ok c.said_of_halted.result _ _ _ (came g c tag at)
-    c.said_of_halted.ensures.code (λ said ran code low. ran)
+returns-in-Err-run-clause-ran_any g c tag at = both_ok c.said_of_error.result _ _ _ (came g c tag at)
+    c.said_of_error.ensures.code (λ said ran code low. ran)
 
 kept : (g : Over) (c : goal.After-note g) (tag : Tag) → slice_get c.args.self.now.tags c.args.seat ≡ Some tag
     → RanInDomain tag c.args.orders.now c.args.self.now.channels c.note.new.self.channels c.args.self.now.last

@@ -31,8 +31,8 @@ returns-in-Ok-Again-clause-ok g c = rw (sym c.self.view_is) (record {
 })
 
 pub returns-in-Err-clause-ok : goal.returns-in-Err-clause-ok
-returns-in-Err-clause-ok g c = both_ok c.said_of_halted.result _ _ _ c.said_of_halted.ensures.said
-    c.said_of_halted.ensures.code (λ said answered code. rw (sym c.self.view_is) (record {
+returns-in-Err-clause-ok g c = both_ok c.said_of_error.result _ _ _ c.said_of_error.ensures.said
+    c.said_of_error.ensures.code (λ said answered code. rw (sym c.self.view_is) (record {
       result = c.apply-ran.result;
       applied = c.apply-ran.ensures.applied;
       faulty = c.apply-ran.ensures.faulty;
@@ -46,7 +46,7 @@ returns-in-Err-clause-ok g c = both_ok c.said_of_halted.result _ _ _ c.said_of_h
     }))
 
 pub returns-in-Err-clause-err : goal.returns-in-Err-clause-err
-returns-in-Err-clause-err g c = then_on_err c.said_of_halted.result _ _ c.said_of_halted.ensures.memory
+returns-in-Err-clause-err g c = then_on_err c.said_of_error.result _ _ c.said_of_error.ensures.memory
     (λ stopped. rw (sym c.self.view_is) (record {
       result = c.apply-ran.result;
       applied = c.apply-ran.ensures.applied;

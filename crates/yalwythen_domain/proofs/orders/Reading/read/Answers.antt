@@ -7,12 +7,12 @@ use Rattle.yalwythen_domain.proofs.orders.Reading.read.Goals as goal
 
 pub returns-in_ok-push-in_default-clause-tokens : goal.returns-in_ok-push-in_default-clause-tokens
 returns-in_ok-push-in_default-clause-tokens c =
-    let forks = c.args.self.now.forks.items in let steps = c.args.self.now.steps.items in
-    let order = c.args.order.now in let step = c.in-Some.step in let before = read_so_far forks steps in
+    let nested = c.args.self.now.nested.items in let steps = c.args.self.now.steps.items in
+    let order = c.args.order.now in let step = c.in-Some.step in let before = read_so_far nested steps in
     let pushed : c.push.new.self.items ≡ steps ++ step ∷ [] = search rules in
     let at : step_of order ≡ Some step = sym c.step_numbered.ensures ∙ c.in-Some.is in
-    ap (λ xs. map Some (read_so_far forks xs)) pushed
-    ∙ ap (λ (tokens : _). map Some tokens) (one_step_more forks steps step
+    ap (λ xs. map Some (read_so_far nested xs)) pushed
+    ∙ ap (λ (tokens : _). map Some tokens) (one_step_more nested steps step
     ∙ ap (λ tokens. before ++ tokens) (single order.chan order.reader order.body order.number step at))
     ∙ map-append Some before (One step ∷ [])
     ∙ ap (λ token. map Some before ++ token ∷ []) (sym (numbered order step at))

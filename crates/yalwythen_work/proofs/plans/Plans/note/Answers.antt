@@ -2,7 +2,7 @@ use Rattle.std.proofs.Common.{rules, length, ◌≡◌, ◌∙◌, ap, sym, ℕ,
 use Rattle.txc_txn_check.specs.Limits.{CheckedView}
 use Rattle.yalwythen_work.proofs.Noting.{one_more_once}
 use Rattle.yalwythen_work.specs.Plans.{PlansView, noted, plan_of}
-use Rattle.yalwythen_work.specs.declared.plans.Noted.TheVariants.{Once}
+use Rattle.yalwythen_work.specs.declared.plans.PlanIndex.TheVariants.{Once}
 use Rattle.yalwythen_work.proofs.plans.Plans.note.Goals as goal
 
 pub returns-then-self-clause-kept : goal.returns-then-self-clause-kept

@@ -15,7 +15,7 @@ returns-clause-finished g c =
     (finished _ _ c.self.inside.left.items c.report.result refl c.self.invariant.tabled
     (subst (λ (cs : List LedgeredView). IsStanding (lines_of cs) c.self.inside.locked.members.seats
     c.self.inside.left.items
-    c.report.result) c.draft_for.ensures.same c.report.ensures.standing))
+    c.report.result) c.buffers_for.ensures.same c.report.ensures.standing))
 
 pub returns-clause-accounts : goal.returns-clause-accounts
 returns-clause-accounts g c =
@@ -28,4 +28,4 @@ returns-clause-accounts g c =
     c.self.view_is
     (subst (λ n. AreAccounts (line_decls (lines_of channels)) (helds_of channels) n c.report.result.accounts) many
     (subst (λ (cs : List LedgeredView). AreAccounts (line_decls (lines_of cs)) (helds_of cs) (length cs)
-    c.report.result.accounts) c.draft_for.ensures.same c.report.ensures.accounts))
+    c.report.result.accounts) c.buffers_for.ensures.same c.report.ensures.accounts))

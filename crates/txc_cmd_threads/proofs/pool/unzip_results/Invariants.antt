@@ -1,0 +1,14 @@
+use Rattle.std.proofs.Common.{◌≡◌, ℕ, ◌<◌, ◌≤◌, drop, length, slice_index_or, vec_len}
+use Rattle.std.specs.Vec.Iter.{into_iter_items, into_iter_len}
+use Rattle.txc_cmd_threads.proofs.pool.unzip_results.Given as goal
+
+abbrev pub invariant-loop-one : goal.invariant-loop-one
+invariant-loop-one g l = record {
+  rest : into_iter_items l.one-iterator ≡ drop (vec_len l.results.left) l.fn.served.items;
+  left : into_iter_len l.one-iterator ≡ length (into_iter_items l.one-iterator);
+  some : vec_len l.results.left ≤ vec_len l.fn.served;
+  ends : vec_len l.results.ends ≡ vec_len l.results.left;
+  each : (k : ℕ) (s : _) (x : _) (e : _) → k < vec_len l.results.left
+      → (slice_index_or l.results.left.items k x ≡ (slice_index_or l.fn.served.items k s).left)
+      × (slice_index_or l.results.ends.items k e ≡ (slice_index_or l.fn.served.items k s).end);
+}
