@@ -40,8 +40,8 @@ USED = ("checked", "must_fail", "rtlib", "unread")
 LINE = re.compile(r"^fn (\S+): (.*)$", re.MULTILINE)
 OWN = re.compile(r"no proof: .*did not prove|not proved$")
 REFUSED = "not proved; it stands on "
-# The last line of a check that came to its proofs, of a whole crate or of some functions, with or without holes.
-ENDED = re.compile(r"^(?:logic=(?:not-)?proved|only=\d+ (?:proved|holes)=\d+)\b.*\n*\Z", re.MULTILINE)
+# The last line of a check that came to its proofs, of a whole crate or of some functions.
+ENDED = re.compile(r"^(?:logic=(?:not-)?proved|only=\d+ proved=\d+)\b.*\n*\Z", re.MULTILINE)
 
 
 class Fault(Exception):

@@ -3,18 +3,15 @@
 those that the checker doesn't reject. ./test runs it.
 
 `rt must-fail` proves a crate once more before it tries mutants of it. Here a check has only the functions that the
-mutants change, and those that they call, proved. Of the crates in HOLED it takes those that they call by their
-contracts. One check tries mutants of different functions, as in tools/edits.py. A mutant about which it decides nothing
-is tried alone, as `rt must-fail` tries it.
+mutants change, and those that they call, proved. One check tries mutants of different functions, as in tools/edits.py.
+A mutant about which it decides nothing is tried alone, as `rt must-fail` tries it.
 
 Each mutant counts by itself. The last line is 'N passed, M failed'.
 """
 import concurrent.futures
 import os
 import re
-import shutil
 import signal
-import subprocess
 import sys
 import tempfile
 import time
@@ -24,15 +21,10 @@ sys.dont_write_bytecode = True
 import build
 import edit_files
 import edits
-import holes
 
 LIST = edit_files.ROOT / "tools" / "gate_edits.txt"
 # More than any check of some functions takes, in bytes: the largest is of `txc_table`.
 MOST_MEMORY = 2_500_000_000
-# The crates in which the functions that a mutant's function calls take longer to prove than the rest of a check.
-HOLED = ("txc_table",)
-# What a check says of a function whose own proof has no hole, and in what it depends on one.
-WITHOUT_HOLES = re.compile(r"no holes$|depends on a hole in `Rattle\.\w+\.proofs\.(\S+)\.Proof\.")
 # The last line of a check of some functions: how many they are, and how many of them are proved.
 PROVED = re.compile(r"^only=(\d+) proved=(\d+)\b.*\n*\Z", re.MULTILINE)
 
@@ -61,8 +53,6 @@ def words_of(function):
 class Trial:
     """The listed mutants of one crate, each check over what the ones before it proved."""
 
-    flags = ("--jobs", "1")
-
     def __init__(self, rt, crate, kept):
         self.rt, self.crate, self.folder, self.kept = rt, crate, Path(crate.folder), kept
 
@@ -76,12 +66,8 @@ class Trial:
     def checked(self, chosen):
         """What a check says of the functions that these mutants change, and the texts that it was given."""
         texts = edit_files.texts_of(self.folder, [*chosen.values()])
-        return self.said_of(chosen, texts), texts
-
-    def said_of(self, functions, texts):
-        """What a check says of these functions, if the crate has these texts."""
-        words = [word for function in functions for word in words_of(function)]
-        return self.rt.checked(self.crate, texts, [*self.flags, *words], self.kept).stdout
+        words = [word for function in chosen for word in words_of(function)]
+        return self.rt.checked(self.crate, texts, ["--jobs", "1", *words], self.kept).stdout, texts
 
     def together(self, chosen):
         """Those of the chosen mutants, by the functions that they change, that one check rejects."""
@@ -105,51 +91,13 @@ class Trial:
 def try_crate(rt, crate, tried):
     """How many of these mutants of a crate are rejected."""
     begun = time.monotonic()
-    rejected = rejected_over_contracts(rt, crate, tried) if crate.name in HOLED else []
     with tempfile.TemporaryDirectory(prefix="kept-") as kept:
-        rejected += Trial(rt, crate, kept).rejected([it for it in tried if it not in rejected])
+        rejected = Trial(rt, crate, kept).rejected(tried)
     for it in tried:
         if it not in rejected:
             edits.report(f"{edits.name_of(it)}: not rejected")
     edits.report(f"{crate.name}: {len(rejected)} of {len(tried)} rejected, {edits.seconds_since(begun)}")
     return len(rejected)
-
-
-class HoledTrial(Trial):
-    """The listed mutants of one crate, in a copy of it in which the proofs of all functions that they don't change are
-    holes. A check takes these functions by their contracts."""
-
-    flags = ("--jobs", "1", "--allow-holes")
-
-    def rejected(self, tried):
-        functions = {edit_files.function_of(self.folder, it) for it in tried}
-        if None in functions:
-            raise edits.Fault(f"{self.crate.name}: a mutant changes another text than the body of a function")
-        holes.make(self.folder, {name for _, _, name in functions})
-        said = edits.LINE.findall(self.said_of(functions, {}))
-        for function in functions:
-            if not any(edits.is_of(function, path) and is_without_holes(path, why) for path, why in said):
-                raise edits.Fault(f"{self.crate.name}: {function[-1]} isn't proved over the contracts of the others")
-        rounds, alone = edits.rounds_of(self.folder, tried)
-        rounds += [{edit_files.function_of(self.folder, it): it} for it in alone]
-        return [it for chosen in rounds for it in self.together(chosen)]
-
-
-def is_without_holes(path, why):
-    """Whether what a check says of the function with this name is that its own proof has no hole."""
-    found = WITHOUT_HOLES.match(why)
-    return bool(found) and found[1] != ".".join(path.split("::")[1:])
-
-
-def rejected_over_contracts(rt, crate, tried):
-    """Those of these mutants that are rejected in a copy of the crate as `HoledTrial` makes it."""
-    scratch = [edit_files.ROOT / "tools" / "scratch.sh", crate.name]
-    place = subprocess.run(scratch, stdout=subprocess.PIPE, text=True, check=True).stdout.strip()
-    try:
-        copy = next(it for it in rt.rtlib.crates_below(f"{place}/crates") if it.name == crate.name)
-        return HoledTrial(rt, copy, f"{place}/kept").rejected(tried)
-    finally:
-        shutil.rmtree(place, ignore_errors=True)
 
 
 def crates_of(rt, names):

@@ -73,8 +73,8 @@ fn leave_all<R: Wait, K: Recording>(rt: &R, table: &Table<K>, seats: Vec<Seat<K,
     seats.destroy_empty();
 }
 
-/// Pairs each seat with the worker of the same number and adds the pairs to `jobs`, which must be empty and have capacity
-/// for them.
+/// Pairs each seat with the worker of the same number and adds the pairs to `jobs`, which must be empty and have
+/// capacity for them.
 fn make_jobs<'a, R: Wait, K: Recording, W: Drop, Q>(
     pool: &Pool<'a, R, K>,
     seats: Vec<Seat<K, K::Receipts>>,

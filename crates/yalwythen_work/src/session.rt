@@ -39,8 +39,8 @@ use txc_table::{Ended, Gate, Seat, Table, Tried};
 use txc_txn_check::{Checked, Step, TxnFault};
 
 /// A worker's handle of the table, through the worker's own seat. Its public methods have no preconditions: each call
-/// checks the steps against the table's channels. The seat is always one of the table. When the session is dropped, its seat
-/// goes into the cell that the session was made for.
+/// checks the steps against the table's channels. The seat is always one of the table. When the session is dropped,
+/// its seat goes into the cell that the session was made for.
 pub struct Session<'a, K: Recording = FullLog> {
     alloc: Global,
     table: &'a Table<K>,
