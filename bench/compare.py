@@ -31,7 +31,7 @@ compiled.compile_bench("jobs", sys.argv[1], "yalwythen", "anyhow")
 def compile_at(commit, place, program):
     """Compiles the bench of a commit as this program, in a clone that is in a folder of this place."""
     compiled.run("git", "clone", "--quiet", "--shared", "--no-checkout", ROOT, place / "clone")
-    compiled.run("git", "-C", place / "clone", "checkout", "--quiet", "--detach", commit)
+    compiled.run("git", "-C", place / "clone", "switch", "--quiet", "--detach", commit)
     compiled.run(sys.executable, "-c", COMPILE, program, cwd=place / "clone")
 
 
