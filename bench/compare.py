@@ -3,8 +3,8 @@
 as they are. It compiles both benches without proofs and runs them in turn, in nine rounds if none are given. On a busy
 machine two programs that run in turn can be compared, and figures of two hours cannot.
 
-It prints for each job the nanoseconds of a transaction by the clock, by a service and by a run: the median of the
-rounds for both. The last line says what else the machine did.
+It prints for each job the nanoseconds of a transaction by the clock, with `serve` and with `run`: the median of the
+rounds for both commits. The last line says what else the machine did.
 """
 import subprocess
 import sys

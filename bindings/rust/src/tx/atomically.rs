@@ -22,8 +22,9 @@ impl Domain {
     ///
     /// # Panics
     ///
-    /// If the closure calls the domain other than by its [`Tx`], if an item leaves the closure and is rolled back, or,
-    /// only here, if the closure retries without a step on any channel.
+    /// If the closure calls the domain other than by its [`Tx`], if an item leaves the closure and is rolled back, or
+    /// if the closure retries without a step on any channel. In the last case the other two functions return `Retry`
+    /// or `Timeout`.
     ///
     /// ```
     /// use yalwythen::Domain;
