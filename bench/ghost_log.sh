@@ -24,23 +24,23 @@ use Rattle.txc_txn.specs.Plain.{chan_in}
 use Rattle.bench_ghost_log.proofs.Turns.turn.Goals as goal
 
 -- a transaction fits these channels, and those that it names are there
-abbrev Suits : List ChanView → CheckedView → Type 0
-Suits held plan = Fits (kinds_of (chan_in held)) plan.steps × ((n : ℕ) → Contains plan.declared n → n < length held)
+abbrev Supports : List ChanView → CheckedView → Type 0
+Supports held plan = Fits (kinds_of (chan_in held)) plan.steps × ((n : ℕ) → Contains plan.declared n → n < length held)
 
 -- so it does after another was run on them
 still : (before after : List ChanView) (plan : CheckedView) → kinds_of (chan_in after) ≡ kinds_of (chan_in before)
-    → ((n : ℕ) → n < length before → n < length after) → Suits before plan → Suits after plan
-still before after plan same held suits =
-    (subst (λ (kinds : ℕ → Option Kind). Fits kinds plan.steps) (sym same) suits.0, λ n is. held n (suits.1 n is))
+    → ((n : ℕ) → n < length before → n < length after) → Supports before plan → Supports after plan
+still before after plan same held supports =
+    (subst (λ (kinds : ℕ → Option Kind). Fits kinds plan.steps) (sym same) supports.0, λ n is. held n (supports.1 n is))
 
 -- .. and after a second one
 still_both : (before between after : List ChanView) (one other : CheckedView)
     → kinds_of (chan_in between) ≡ kinds_of (chan_in before) → ((n : ℕ) → n < length before → n < length between)
     → kinds_of (chan_in after) ≡ kinds_of (chan_in between) → ((n : ℕ) → n < length between → n < length after)
-    → Suits before one × Suits before other → Suits after one × Suits after other
-still_both before between after one other first held second held' suits =
-    (still between after one second held' (still before between one first held suits.0),
-    still between after other second held' (still before between other first held suits.1))
+    → Supports before one × Supports before other → Supports after one × Supports after other
+still_both before between after one other first held second held' supports =
+    (still between after one second held' (still before between one first held supports.0),
+    still between after other second held' (still before between other first held supports.1))
 
 pub run-other-requires-clause-fits : goal.run-other-requires-clause-fits
 run-other-requires-clause-fits g c = (still c.self.inside.plain c.run-one.new.plain c.self.inside.other

@@ -16,7 +16,7 @@
      begin_wait_until      crates/txc_table_wait/src/wait_queue.rt: wait_until
      .. in the states      crates/txc_table_wait/src/waiters.rt: wait_until, end_wait_until
      the end of a seat     crates/txc_table_wait/src/wait_queue.rt: leave
-     attempt               crates/txc_table/src/table/attempt.rt: attempt_with, try_through, run, run_held
+     attempt               crates/txc_table/src/table/attempt.rt: attempt_with, run, run_held
      take_all              crates/txc_table/src/table/attempt.rt: take_registered_for
      .. without the seat   crates/txc_table_wait/src/seats.rt: without
      Seat                  crates/txc_table/src/table/transact.rt: transact_for, try_until_kept, try_once

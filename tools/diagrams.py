@@ -39,10 +39,9 @@ WAY = [
     (3, "txc_cmd_threads/src/worker.rt", "serve", "txc_cmd_threads/src/job.rt:perform "
      "txc_cmd_threads/src/job.rt:run_job"),
     (4, "txc_table/src/table/transact.rt", "transact", ""),
-    (5, "txc_table/src/table/attempt.rt", "attempt_with", "txc_table/src/table/transact.rt:transact_for "
-     "txc_table/src/table/transact.rt:try_some_times txc_table/src/table/attempt.rt:attempt"),
-    (6, "txc_table/src/table/attempt.rt", "run_held", "txc_table/src/table/attempt.rt:try_through "
-     "txc_table/src/table/attempt.rt:run txc_table/src/table/attempt.rt:run_in_place"),
+    (5, "txc_table/src/table/attempt.rt", "attempt_with", "txc_table/src/table/transact.rt:transact_for"),
+    (6, "txc_table/src/table/attempt.rt", "run_held", "txc_table/src/table/attempt.rt:run "
+     "txc_table/src/table/attempt.rt:run_in_place"),
     (7, "txc_table_lines/src/guards.rt", "take", ""),
     (8, "txc_table_lock/src/waiting.rt", "lock", "txc_table_lines/src/guards.rt:take_line "
      "txc_table_line/src/line_guard.rt:take"),
@@ -51,12 +50,12 @@ WAY = [
     (9, "txc_txn/src/run.rt", "begin", ""),
     (9, "txc_txn/src/run.rt", "op", "txc_txn/src/run.rt:steps txc_txn/src/run.rt:step"),
     (10, "txc_chan/src/chan.rt", "apply", "txc_table_lines/src/hold.rt:apply txc_table_line/src/locked_line.rt:apply "
-     "txc_table_line/src/ledgered.rt:apply"),
+     "txc_table_line/src/line_chan.rt:apply"),
     (11, "txc_chan/src/chan/write.rt", "write", ""),
     (12, "txc_queue/src/pair_queue.rt", "push_back", "txc_chan/src/body.rt:write"),
     (8, "txc_table_lines/src/guards.rt", "settle_all", ""),
     (7, "txc_table_lines/src/guards.rt", "release", ""),
-    (6, "txc_table_seat/src/history.rt", "keep", "txc_table/src/table/attempt.rt:try_through"),
+    (6, "txc_table_seat/src/history.rt", "keep", ""),
     (6, "txc_table_wait/src/wait_queue.rt", "notify", ""),
     (2, "txc_table/src/table/idle.rt", "finish", "txc_cmd_threads/src/run.rt:run_gated "
      "txc_cmd_threads/src/closing.rt:close"),

@@ -82,5 +82,5 @@ abbrev pub names_its_reader : Kind → Op → Bool
 names_its_reader kind op = is_broadcast kind || nat_eq (unwrap_or (reader_of op) 0) 0
 
 -- a test: a kind has an operation, and can have its reader; a queue has only reader 0 (stm, stm-chans)
-abbrev pub suits : Kind → Op → Bool
-suits kind op = allowed_for kind op && names_its_reader kind op
+abbrev pub supports : Kind → Op → Bool
+supports kind op = allowed_for kind op && names_its_reader kind op

@@ -7,9 +7,9 @@ pub mod Text
 pub mod Channel
 pub mod Operation
 pub mod Log
-pub mod Fair
+pub mod InOrder
 pub mod Next
-pub mod Shut
+pub mod StaysClosedLaw
 pub mod Once
 pub mod Counts
 pub mod Examples

@@ -11,7 +11,7 @@ use Rattle.txc_base.specs.declared.origin.Origin.{Origin}
 use Rattle.txc_base.specs.declared.origin.Origin.TheVariants.{Written, Back}
 use Rattle.txc_base.specs.declared.tag.Tag.{Tag}
 use Rattle.txc_base.specs.Channel.{Channel, opening, list_of}
-use Rattle.txc_base.specs.declared.limits.TheConstants.{MOST_READERS}
+use Rattle.txc_base.specs.declared.limits.TheConstants.{MAX_READERS}
 use Rattle.txc_base.specs.Kinds.{is_bounded, is_broadcast, is_closable}
 use Rattle.txc_base.specs.Operation.{is_full, is_plain_bounded, next_written, next_back, with_written, with_left}
 use Rattle.txc_base.specs.Operation.{with_back, with_reader}
@@ -50,7 +50,7 @@ takes_back channel = not (is_plain_bounded channel.kind && is_full channel)
 -- a test: a broadcast channel may have one more reader, and it gets this number (stm; the limit is this project's)
 abbrev pub is_next_reader : Channel → ℕ → Bool
 is_next_reader channel reader = is_broadcast channel.kind &&
-    (reader == length channel.lists && nat_lt (length channel.lists) MOST_READERS)
+    (reader == length channel.lists && nat_lt (length channel.lists) MAX_READERS)
 
 -- this channel, if the test holds
 abbrev pub provided : Bool → Channel → Option Channel

@@ -6,7 +6,7 @@ use Rattle.txc_base.specs.declared.act.Act.TheVariants.{PutBack}
 use Rattle.txc_base.specs.declared.entry.Entry.{Entry}
 use Rattle.txc_base.specs.declared.item.Item.{Item}
 use Rattle.txc_base.specs.declared.tag.Tag.{Tag}
-use Rattle.txc_base.specs.Fair.{taken}
+use Rattle.txc_base.specs.InOrder.{taken}
 
 -- the item that an act put back to this reader, if it put one back
 abbrev pub returned_by : ℕ → Act → List Item

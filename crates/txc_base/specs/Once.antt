@@ -5,7 +5,7 @@ use Rattle.txc_base.specs.declared.entry.Entry.{Entry}
 use Rattle.txc_base.specs.declared.item.Item.{Item}
 use Rattle.txc_base.specs.declared.origin.Origin.{Origin}
 use Rattle.txc_base.specs.declared.origin.Origin.TheVariants.{Written, Back}
-use Rattle.txc_base.specs.Fair.{written, taken}
+use Rattle.txc_base.specs.InOrder.{written, taken}
 use Rattle.txc_base.specs.Log.{origin_eq}
 use Rattle.txc_base.specs.Next.{returned}
 

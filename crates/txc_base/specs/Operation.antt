@@ -19,7 +19,7 @@ use Rattle.txc_base.specs.declared.source.Source.TheVariants.{Lit, Last}
 use Rattle.txc_base.specs.declared.stop.Stop.{Stop}
 use Rattle.txc_base.specs.declared.stop.Stop.TheVariants.{NothingRead, NoReader, TooManyReaders}
 use Rattle.txc_base.specs.Channel.{Channel, list_of, length_of}
-use Rattle.txc_base.specs.declared.limits.TheConstants.{MOST_READERS}
+use Rattle.txc_base.specs.declared.limits.TheConstants.{MAX_READERS}
 use Rattle.txc_base.specs.Kinds.{is_bounded}
 
 -- what an operation does: it replies, with these acts and this channel after it, or waits, or aborts the transaction
@@ -67,7 +67,7 @@ with_room channel without next = if is_bounded channel.kind && is_full channel t
 
 -- a test: there can be one more reader; otherwise the transaction aborts
 abbrev pub with_place : Channel → Did → Did
-with_place channel next = if nat_le MOST_READERS (length channel.lists) then Stops TooManyReaders else next
+with_place channel next = if nat_le MAX_READERS (length channel.lists) then Stops TooManyReaders else next
 
 -- a test: a put-back waits at the bound; one to a closable queue can exceed it (stm-chans)
 abbrev pub is_plain_bounded : Kind → Bool

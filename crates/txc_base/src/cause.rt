@@ -1,4 +1,4 @@
-// Why an operation waits.
+// Why a transaction retries.
 ghost use Rattle.std.specs.Prelude.{Some};
 ghost use Rattle.txc_base.specs.Text.{cause_text};
 

@@ -1,7 +1,7 @@
 // The six kinds of channel, and the operations of each.
 ghost use Rattle.std.specs.Prelude.{◌≡◌};
 ghost use Rattle.txc_base.specs.Kinds.{name_of, is_bounded, is_broadcast, is_closable, allowed_for, names_its_reader};
-ghost use Rattle.txc_base.specs.Kinds.{suits};
+ghost use Rattle.txc_base.specs.Kinds.{supports};
 
 use crate::op::Op;
 use std::fmt;
@@ -133,13 +133,13 @@ pub fn allowed(kind: Kind, op: &Op) -> bool
 pub fn names_its_reader(kind: Kind, op: &Op) -> bool
     ensures { result ≡ names_its_reader kind op.now }
 {
-    kind.is_broadcast() || matches!(op.reader(), None | Some(0))
+    matches!(op.reader(), None | Some(0)) || kind.is_broadcast()
 }
 
 /// Returns whether a channel of this kind has this operation, and can have the reader that the operation names. A queue
 /// has only reader 0.
-pub fn suits(kind: Kind, op: &Op) -> bool
-    ensures { result ≡ suits kind op.now }
+pub fn supports(kind: Kind, op: &Op) -> bool
+    ensures { result ≡ supports kind op.now }
 {
     allowed(kind, op) && names_its_reader(kind, op)
 }

@@ -20,10 +20,10 @@ pub use act::Act;
 pub use cause::Cause;
 pub use entry::Entry;
 pub use item::{Item, Items};
-pub use kind::{Kind, UnknownKind, allowed, names_its_reader, suits};
+pub use kind::{Kind, UnknownKind, allowed, names_its_reader, supports};
 pub use limits::{
-    GREATEST_NUMBER, MOST_BOUND, MOST_CHANNELS, MOST_CHANNELS_OF_LARGE, MOST_READERS, MOST_SEATS,
-    MOST_SEATS_OF_LARGE,
+    GREATEST_NUMBER, MAX_BOUND, MAX_CHANNELS, MAX_CHANNELS_OF_LARGE, MAX_READERS, MAX_SEATS,
+    MAX_SEATS_OF_LARGE,
 };
 pub use list::List;
 pub use op::Op;

@@ -1,6 +1,6 @@
 // The replies to operations.
 ghost use Rattle.std.specs.Prelude.{◌≡◌};
-ghost use Rattle.txc_base.specs.Reply.{last_of};
+ghost use Rattle.txc_base.specs.Reply.{last_read_after};
 ghost use Rattle.txc_base.specs.Text.{reply_text};
 
 use crate::item::{Item, Items};
@@ -32,8 +32,8 @@ pub enum Reply {
 
 impl Reply {
     /// Returns the body that was read or peeked last, after this reply: the reply's own if it has one, or `last`.
-    pub fn last_after(&self, last: Option<u64>) -> Option<u64>
-        ensures { result ≡ last_of self.now last }
+    pub fn last_read_after(&self, last: Option<u64>) -> Option<u64>
+        ensures { result ≡ last_read_after self.now last }
     {
         match self {
             Reply::Got(item) => Some(item.body),

@@ -14,7 +14,7 @@ pub enum Stop {
     NoReader,
     /// The body of an item is that of the last item read or peeked, and there is none.
     NothingRead,
-    /// The channel has `MOST_READERS` readers already.
+    /// The channel has `MAX_READERS` readers already.
     TooManyReaders,
     /// A serial or a stamp is `GREATEST_NUMBER` and cannot be raised.
     Worn,

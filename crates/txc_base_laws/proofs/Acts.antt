@@ -9,7 +9,7 @@ use Rattle.txc_base.specs.declared.item.Item.{Item}
 use Rattle.txc_base.specs.declared.origin.Origin.{Origin}
 use Rattle.txc_base.specs.declared.origin.Origin.TheVariants.{Written, Back}
 use Rattle.txc_base.specs.Channel.{Channel, list_of}
-use Rattle.txc_base.specs.declared.limits.TheConstants.{MOST_READERS}
+use Rattle.txc_base.specs.declared.limits.TheConstants.{MAX_READERS}
 use Rattle.txc_base.specs.Kinds.{is_broadcast, is_closable}
 use Rattle.txc_base.specs.Operation.{next_written, next_back, with_written, with_left, with_back, with_reader}
 use Rattle.txc_base.specs.Log.{origin_eq, item_eq, begins_with, takes_write, takes_back, is_next_back, is_next_reader}
@@ -61,10 +61,10 @@ Leads c seat (PutBack reader item) c' =
 Leads c seat Closed c' = (is_closable c.kind ≡ true) × ((c.closed ≡ false) × (c' ≡ record c { closed = true }))
 Leads c seat (Begun reader) c' =
     (is_broadcast c.kind ≡ true) × ((reader ≡ length c.lists)
-    × ((length c.lists < MOST_READERS) × (c' ≡ with_reader c [])))
+    × ((length c.lists < MAX_READERS) × (c' ≡ with_reader c [])))
 Leads c seat (Cloned source reader) c' =
     (list : List Item) × ((list_of c source ≡ Some list) × ((is_broadcast c.kind ≡ true) × ((reader ≡ length c.lists)
-    × ((length c.lists < MOST_READERS) × (c' ≡ with_reader c list)))))
+    × ((length c.lists < MAX_READERS) × (c' ≡ with_reader c list)))))
 
 -- a channel is given only where the test holds
 given : (test : Bool) (c c' : Channel) → provided test c ≡ Some c' → (test ≡ true) × (c' ≡ c)
@@ -72,11 +72,11 @@ given test c c' e = let t = cond_some test c c' e in (t.0, sym t.1)
 
 -- the number of the next reader
 next_reader : (c : Channel) (reader : ℕ) → is_next_reader c reader ≡ true
-    → (is_broadcast c.kind ≡ true) × ((reader ≡ length c.lists) × (length c.lists < MOST_READERS))
+    → (is_broadcast c.kind ≡ true) × ((reader ≡ length c.lists) × (length c.lists < MAX_READERS))
 next_reader c reader e =
     let parts = and_parts _ _ e in
     let rest = and_parts _ _ parts.1 in
-    (parts.0, (eqb-true reader (length c.lists) rest.0, ltb-true (length c.lists) MOST_READERS rest.1))
+    (parts.0, (eqb-true reader (length c.lists) rest.0, ltb-true (length c.lists) MAX_READERS rest.1))
 
 -- what a lawful write says
 wrote : (c : Channel) (seat : ℕ) (item : Item) (c' : Channel) → after_act c seat (Wrote item) ≡ Some c'

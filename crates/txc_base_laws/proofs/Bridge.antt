@@ -16,7 +16,7 @@ use Rattle.txc_base.specs.declared.op.Op.TheVariants.{IsClosed, IsEmpty, IsFull,
 use Rattle.txc_base.specs.declared.reply.Reply.TheVariants as reply
 use Rattle.txc_base.specs.declared.tag.Tag.{Tag}
 use Rattle.txc_base.specs.Channel.{Channel, list_of}
-use Rattle.txc_base.specs.declared.limits.TheConstants.{MOST_READERS}
+use Rattle.txc_base.specs.declared.limits.TheConstants.{MAX_READERS}
 use Rattle.txc_base.specs.Kinds.{is_bounded, is_broadcast, is_closable, allowed_for}
 use Rattle.txc_base.specs.Log.{begins_with, takes_write, takes_back, is_next_reader, provided, at_list, after_act}
 use Rattle.txc_base.specs.Log.{state, entries}
@@ -134,11 +134,11 @@ close_logs c tag closable =
     (λ unshut. is_given _ (record c { closed = true }) (and_from _ _ closable (not_from_false c.closed unshut)))
 
 -- one more reader has the next number, below the limit
-pub next_reader : (c : Channel) → is_broadcast c.kind ≡ true → length c.lists < MOST_READERS
+pub next_reader : (c : Channel) → is_broadcast c.kind ≡ true → length c.lists < MAX_READERS
     → is_next_reader c (length c.lists) ≡ true
 next_reader c broadcast place =
     and_from _ _ broadcast (and_from _ _ (eq-eqb (length c.lists) (length c.lists) refl)
-    (lt-ltb (length c.lists) MOST_READERS place))
+    (lt-ltb (length c.lists) MAX_READERS place))
 
 -- a new reader, by an act that is lawful where it has the next number
 reader_logs : (c : Channel) (tag : Tag) (made : ℕ → Act) (list : List Item)
@@ -147,7 +147,7 @@ reader_logs : (c : Channel) (tag : Tag) (made : ℕ → Act) (list : List Item)
     → is_broadcast c.kind ≡ true → Logs c tag (reader_made c made list)
 reader_logs c tag made list h broadcast =
     if_logs c tag _ _ _ (λ _. tt)
-    (λ place. h (next_reader c broadcast (leb-false MOST_READERS (length c.lists) place)))
+    (λ place. h (next_reader c broadcast (leb-false MAX_READERS (length c.lists) place)))
 
 -- a duplicate
 dup_logs : (c : Channel) (tag : Tag) → is_broadcast c.kind ≡ true → Logs c tag (reader_made c act.Begun [])

@@ -5,7 +5,7 @@ use Rattle.txc_base.specs.declared.act.Act.TheVariants.{Wrote, Took, PutBack, Cl
 use Rattle.txc_base.specs.declared.entry.Entry.{Entry}
 use Rattle.txc_base.specs.declared.item.Item.{Item}
 use Rattle.txc_base.specs.Counts.{is_put, is_took, is_other, put, took, other, IsCounted}
-use Rattle.txc_base.specs.Fair.{written, written_by}
+use Rattle.txc_base.specs.InOrder.{written, written_by}
 use Rattle.txc_base.specs.Next.{returned, returned_by}
 use Rattle.txc_base_laws.proofs.QueueLaw.{Moves, in_queues}
 use Rattle.txc_base_laws.proofs.Words.{written_push, returned_push, count_push, count_cons}

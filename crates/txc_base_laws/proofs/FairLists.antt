@@ -4,7 +4,7 @@ use Rattle.std.proofs.Common.{append_assoc, length-append, length-drop, if◌the
 use Rattle.std.proofs.lemmas.List.{drop_at, drop-drop, drop-append-le}
 use Rattle.std.proofs.lemmas.List.Elements.{filter-append}
 use Rattle.txc_base.specs.declared.item.Item.{Item}
-use Rattle.txc_base.specs.Fair.{is_written, strike}
+use Rattle.txc_base.specs.InOrder.{is_written, strike}
 
 -- what is left out of two lists
 pub strike_append : (xs ys : List Item) → strike (xs ++ ys) ≡ strike xs ++ strike ys

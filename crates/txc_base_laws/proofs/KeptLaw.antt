@@ -9,9 +9,9 @@ use Rattle.txc_base.specs.declared.entry.Entry.{Entry}
 use Rattle.txc_base.specs.declared.item.Item.{Item}
 use Rattle.txc_base.specs.declared.kind.Kind.{Kind}
 use Rattle.txc_base.specs.Channel.{Channel}
-use Rattle.txc_base.specs.declared.limits.TheConstants.{MOST_READERS}
+use Rattle.txc_base.specs.declared.limits.TheConstants.{MAX_READERS}
 use Rattle.txc_base.specs.Counts.{is_put, put}
-use Rattle.txc_base.specs.Fair.{written_by, written}
+use Rattle.txc_base.specs.InOrder.{written_by, written}
 use Rattle.txc_base.specs.Kinds.{is_closable}
 use Rattle.txc_base.specs.Operation.{with_written, with_left, with_back, with_reader}
 use Rattle.txc_base_laws.proofs.Acts.{Leads}
@@ -25,7 +25,7 @@ record Same (c b : Channel) : Type 0 where
   bound : b.bound ≡ c.bound
   closed : b.closed ≡ c.closed
   readers : length c.lists ≤ length b.lists
-  few : length c.lists ≤ MOST_READERS → length b.lists ≤ MOST_READERS
+  few : length c.lists ≤ MAX_READERS → length b.lists ≤ MAX_READERS
 
 -- an equal channel that keeps the same
 keeps_same : (kind : Kind) (bound readers : ℕ) (c b c' : Channel) → KeepsDeclared kind bound readers c → c' ≡ b
@@ -36,7 +36,7 @@ keeps_same kind bound readers c b c' k is same = record {
   first_readers = omega (arith, k.first_readers, same.readers, ap (λ (x : Channel). length x.lists) is);
   few_readers = λ first. let few = same.few (k.few_readers first) in
       omega (arith, ap (λ (x : Channel). length x.lists) is);
-  closable = λ shut. k.closable (sym same.closed ∙ ap (λ (x : Channel). x.closed) (sym is) ∙ shut);
+  closable = λ stays_closed. k.closable (sym same.closed ∙ ap (λ (x : Channel). x.closed) (sym is) ∙ stays_closed);
 }
 
 -- a change that left as many readers as there were
@@ -51,7 +51,7 @@ as_many c b kind bound closed size = record {
 }
 
 -- one more reader
-one_more : (c : Channel) (list : List Item) → length c.lists < MOST_READERS → Same c (with_reader c list)
+one_more : (c : Channel) (list : List Item) → length c.lists < MAX_READERS → Same c (with_reader c list)
 one_more c list place = record {
   kind = refl;
   bound = refl;
@@ -77,7 +77,7 @@ keeps_act kind bound readers c seat Closed c' k h = record {
   same_bound = ap (λ (x : Channel). x.bound) h.1.1 ∙ k.same_bound;
   first_readers = omega (arith, k.first_readers, ap (λ (x : Channel). length x.lists) h.1.1);
   few_readers = λ first. let few = k.few_readers first in omega (arith, ap (λ (x : Channel). length x.lists) h.1.1);
-  closable = λ shut. ap is_closable (sym k.same_kind) ∙ h.0;
+  closable = λ stays_closed. ap is_closable (sym k.same_kind) ∙ h.0;
 }
 keeps_act kind bound readers c seat (Begun reader) c' k h =
     keeps_same kind bound readers c (with_reader c []) c' k h.1.1.1 (one_more c [] h.1.1.0)
@@ -95,7 +95,7 @@ keeps kind bound readers log channel h =
       same_bound = refl;
       first_readers = omega arith;
       few_readers = λ first. first;
-      closable = λ shut. absurd (true≢false (sym shut));
+      closable = λ stays_closed. absurd (true≢false (sym stays_closed));
     }) h
 
 -- what an act adds to the counts of a channel

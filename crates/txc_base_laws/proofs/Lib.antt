@@ -10,6 +10,6 @@ pub mod OnceLaw
 pub mod Bridge
 pub mod NextLaw
 pub mod FairLists
-pub mod FairLaw
+pub mod InOrderLaw
 pub mod UndoLaw
 pub mod OrderLaw

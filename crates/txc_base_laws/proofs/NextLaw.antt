@@ -9,7 +9,7 @@ use Rattle.txc_base.specs.declared.entry.Entry.{Entry}
 use Rattle.txc_base.specs.declared.item.Item.{Item}
 use Rattle.txc_base.specs.declared.kind.Kind.{Kind}
 use Rattle.txc_base.specs.Channel.{Channel, opening, list_of}
-use Rattle.txc_base.specs.Fair.{taken_by, taken}
+use Rattle.txc_base.specs.InOrder.{taken_by, taken}
 use Rattle.txc_base.specs.Log.{after, state, IsTrueTo}
 use Rattle.txc_base.specs.Next.{returned_by, returned, IsNext}
 use Rattle.txc_base.specs.Operation.{with_written, with_left, with_back, with_reader}

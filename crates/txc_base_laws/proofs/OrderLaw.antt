@@ -8,7 +8,7 @@ use Rattle.txc_base.specs.declared.entry.Entry.{Entry}
 use Rattle.txc_base.specs.declared.item.Item.{Item}
 use Rattle.txc_base.specs.declared.kind.Kind.{Kind}
 use Rattle.txc_base.specs.Channel.{Channel, list_of}
-use Rattle.txc_base.specs.Fair.{written_by, written, is_written, strike}
+use Rattle.txc_base.specs.InOrder.{written_by, written, is_written, strike}
 use Rattle.txc_base.specs.Kinds.{is_broadcast}
 use Rattle.txc_base.specs.Log.{IsTrueTo}
 use Rattle.txc_base_laws.proofs.Acts.{Leads}

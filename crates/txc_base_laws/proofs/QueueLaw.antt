@@ -10,7 +10,7 @@ use Rattle.txc_base.specs.declared.item.Item.{Item}
 use Rattle.txc_base.specs.declared.kind.Kind.{Kind}
 use Rattle.txc_base.specs.declared.origin.Origin.TheVariants.{Written, Back}
 use Rattle.txc_base.specs.Channel.{Channel, opening}
-use Rattle.txc_base.specs.Fair.{written, written_by}
+use Rattle.txc_base.specs.InOrder.{written, written_by}
 use Rattle.txc_base.specs.Kinds.{is_broadcast}
 use Rattle.txc_base.specs.Next.{returned, returned_by}
 use Rattle.txc_base.specs.Operation.{with_written, with_left, with_back}

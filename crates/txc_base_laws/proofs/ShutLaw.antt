@@ -9,7 +9,7 @@ use Rattle.txc_base.specs.declared.entry.Entry.{Entry}
 use Rattle.txc_base.specs.declared.kind.Kind.{Kind}
 use Rattle.txc_base.specs.Channel.{Channel, opening}
 use Rattle.txc_base.specs.Log.{after, state, IsTrueTo}
-use Rattle.txc_base.specs.Shut.{needs_open, IsShut}
+use Rattle.txc_base.specs.StaysClosedLaw.{needs_open, StaysClosed}
 use Rattle.txc_base_laws.proofs.Acts.{Leads, leads}
 use Rattle.txc_base_laws.proofs.Truth.{started, between, always}
 use Rattle.txc_base_laws.specs.Laws.{is_closing, IsClosedByItsLog}
@@ -38,9 +38,9 @@ closed_log (entry ∷ log) c c' e h =
     or_from _ _ one.0 (closed_log log m.0 c' one.1 m.1.1)
 
 -- the law
-pub shut : (kind : Kind) (bound readers : ℕ) (log : List Entry) (channel : Channel)
-    → IsTrueTo kind bound readers log channel → IsShut log
-shut kind bound readers log channel h before since tag is =
+pub stays_closed : (kind : Kind) (bound readers : ℕ) (log : List Entry) (channel : Channel)
+    → IsTrueTo kind bound readers log channel → StaysClosed log
+stays_closed kind bound readers log channel h before since tag is =
     let entry : Entry = record { tag = tag; act = Closed } in
     let b = between (Some (opening kind bound readers)) before (entry ∷ since) channel
     (ap (state (Some (opening kind bound readers))) (sym is) ∙ h) in

@@ -7,7 +7,7 @@ use Rattle.std.proofs.lemmas.List.Sums.{sum_by_push, sum_by-cons}
 use Rattle.txc_base.specs.declared.act.Act.{Act}
 use Rattle.txc_base.specs.declared.entry.Entry.{Entry}
 use Rattle.txc_base.specs.declared.item.Item.{Item}
-use Rattle.txc_base.specs.Fair.{written_by, written, taken_by, taken, began_with, began_back, began}
+use Rattle.txc_base.specs.InOrder.{written_by, written, taken_by, taken, began_with, began_back, began}
 use Rattle.txc_base.specs.Next.{returned_by, returned}
 
 -- a list that is read off a log

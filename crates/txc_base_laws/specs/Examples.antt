@@ -6,7 +6,7 @@ use Rattle.txc_base.specs.declared.item.Item.{Item}
 use Rattle.txc_base.specs.declared.kind.Kind.{Kind}
 use Rattle.txc_base.specs.declared.tag.Tag.{Tag}
 use Rattle.txc_base.specs.Channel.{opening}
-use Rattle.txc_base.specs.Fair.{written, taken, strike, began}
+use Rattle.txc_base.specs.InOrder.{written, taken, strike, began}
 use Rattle.txc_base.specs.Log.{state, entries}
 
 -- a transaction of a seat

@@ -10,9 +10,9 @@ use Rattle.txc_base.specs.declared.op.Op.{Op}
 use Rattle.txc_base.specs.declared.reply.Reply.{Reply}
 use Rattle.txc_base.specs.declared.tag.Tag.{Tag}
 use Rattle.txc_base.specs.Channel.{Channel, opening}
-use Rattle.txc_base.specs.declared.limits.TheConstants.{MOST_READERS}
+use Rattle.txc_base.specs.declared.limits.TheConstants.{MAX_READERS}
 use Rattle.txc_base.specs.Counts.{put}
-use Rattle.txc_base.specs.Fair.{written, is_written}
+use Rattle.txc_base.specs.InOrder.{written, is_written}
 use Rattle.txc_base.specs.Kinds.{is_broadcast, is_closable, allowed_for}
 use Rattle.txc_base.specs.Log.{IsTrueTo, after, state, entries}
 use Rattle.txc_base.specs.Operation.{operate, Replies}
@@ -70,7 +70,7 @@ pub record KeepsDeclared (kind : Kind) (bound readers : ℕ) (channel : Channel)
   pub same_kind : channel.kind ≡ kind
   pub same_bound : channel.bound ≡ (opening kind bound readers).bound
   pub first_readers : length (opening kind bound readers).lists ≤ length channel.lists
-  pub few_readers : length (opening kind bound readers).lists ≤ MOST_READERS → length channel.lists ≤ MOST_READERS
+  pub few_readers : length (opening kind bound readers).lists ≤ MAX_READERS → length channel.lists ≤ MAX_READERS
   -- a closed channel is of a kind that can be closed
   pub closable : channel.closed ≡ true → is_closable kind ≡ true
 

@@ -1,10 +1,10 @@
 // The laws of logs. Each function is a lemma: a proof calls it, and it does nothing when it runs.
 ghost use Rattle.std.specs.Prelude.{◌≡◌, ◌+◌, List, length};
 ghost use Rattle.txc_base.specs.Counts.{put, took, other, IsCounted};
-ghost use Rattle.txc_base.specs.Fair.{IsFair, written};
+ghost use Rattle.txc_base.specs.InOrder.{IsInOrder, written};
 ghost use Rattle.txc_base.specs.Next.{IsNext, returned};
 ghost use Rattle.txc_base.specs.Once.{IsOnce};
-ghost use Rattle.txc_base.specs.Shut.{IsShut};
+ghost use Rattle.txc_base.specs.StaysClosedLaw.{StaysClosed};
 ghost use Rattle.txc_base.specs.declared.entry.Entry.{Entry};
 ghost use Rattle.txc_base_laws.specs.Laws.{Always, InQueues, LogsItsActs, StaysTrue, IsDetermined, TakesBack};
 ghost use Rattle.txc_base_laws.specs.Laws.{StaysTrueBack};
@@ -14,8 +14,8 @@ mod examples;
 
 /// Shows that the items each reader took, followed by its remaining items, are the items written since it began, in
 /// order. Put-backs are left out.
-pub fn fair()
-    ensures { Always IsFair }
+pub fn in_order()
+    ensures { Always IsInOrder }
 {}
 
 /// Shows that the first item a reader takes after its last put-back is the item that was put back. If the reader has
@@ -26,8 +26,8 @@ pub fn next()
 
 /// Shows that after a closing no item is written or put back, and the channel is not closed again. A channel is closed
 /// exactly if its log has a closing.
-pub fn shut()
-    ensures nothing_more { Always (λ log lists. IsShut log) }
+pub fn stays_closed()
+    ensures nothing_more { Always (λ log lists. StaysClosed log) }
     ensures flag { IsClosedByItsLog }
 {}
 

@@ -4,4 +4,4 @@
 
 mod laws;
 
-pub use laws::{counts, declared, determined, fair, next, once, operation, shut, undo};
+pub use laws::{counts, declared, determined, in_order, next, once, operation, stays_closed, undo};

@@ -15,7 +15,7 @@ use denote.Triple.Clauses.{Ended, Clauses, Lasts, at_exit}
 use denote.Triple.Entry.{Res, alive}
 use denote.Triple.Walked.{Stays, Fit, has_of, walk_of}
 use Rattle.std.specs.contracts.marker.PhantomData as marker
-use Rattle.txc_base_ledger.specs.Tally.{book_owns, share_owns}
+use Rattle.txc_base_ledger.specs.Tally.{ledger_owns, share_owns}
 use Rattle.std.proofs.raw_atomic.Walks.{leaves}
 
 -- a value without bytes
@@ -45,10 +45,10 @@ ends 𝓛 T hs c y v r ws fit holds =
     use0 𝓛 (raw ((c y.0.0 y.0.3).ensures y.1 r (at_exit T y.0.0 y.0.3 ws))) holds $ move ! (1 ∷ 2 ∷ 3 ∷ []) $
     by ! (leaves 𝓛 T hs c y v r ws fit)
 
--- what a book owns names no lifetime
-pub book_keyless : (name whole total : ℕ) → Keyless (book_owns name whole total)
-unfolding book_owns
-book_keyless name whole total = λ v. tt
+-- what a ledger owns names no lifetime
+pub ledger_keyless : (name whole total : ℕ) → Keyless (ledger_owns name whole total)
+unfolding ledger_owns
+ledger_keyless name whole total = λ v. tt
 
 -- what a share owns names no lifetime
 pub share_keyless : (name whole parts amount : ℕ) → Keyless (share_owns name whole parts amount)

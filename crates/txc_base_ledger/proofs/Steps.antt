@@ -12,16 +12,16 @@ use types.Logic.{Logic, sem}
 use types.Owned.{basic, own_new, own_glued, own_step}
 use types.Kit.{‵, ◌⊛◌, some as exists, given, later, ◌$◌, ◌∵◌, !, qed, by, move, split, fjoin, fpick, fpack, pick}
 use types.Kit.{learn, check, show, use0, use1, use2, await, updating, now, done}
-use Rattle.txc_base_ledger.specs.Tally.{Row, Valid, ◌⊕◌, El, graph, tally, holds, book_owns, share_owns}
+use Rattle.txc_base_ledger.specs.Tally.{Row, Valid, ◌⊕◌, El, graph, tally, holds, ledger_owns, share_owns}
 
 -- how a share stands to the total
 abbrev pub Audited : ℕ → ℕ → ℕ → ℕ → Type 0
 Audited whole total parts amount = (amount ≤ total) × (parts ≡ whole → amount ≡ total) × (parts ≡ 0 → amount ≡ 0)
 
 module _ (whole : ℕ) where
-  -- a book of nothing but its total
-  book_valid : (total parts amount : ℕ) → Valid whole (some total, parts, amount) → Valid whole (some total, 0, 0)
-  book_valid total parts amount v =
+  -- a ledger of nothing but its total
+  ledger_valid : (total parts amount : ℕ) → Valid whole (some total, parts, amount) → Valid whole (some total, 0, 0)
+  ledger_valid total parts amount v =
       let below = v.0 in let backed = v.1 in let within = v.2.0 in let all = v.2.1 in (
         omega arith,
         (λ _. refl),
@@ -107,12 +107,12 @@ module _ (whole : ℕ) where
     sound : (γ : ℕ) (x : Row) → ⟦ has γ x ⟧ ⊢ guard 𝓤 (Valid whole x) ⟦ has γ x ⟧
     sound γ x = qed 𝓛 (‵ (has γ x) ∷ []) ∵ fpick ! (λ v. check ! v $ use1 𝓛 (‵ (has γ x)) (held γ x v) $ done !)
 
-    -- a book and a share of it are one row
+    -- a ledger and a share of it are one row
     joined : (γ t p a : ℕ) → ⟦ has γ (some t, 0, 0) ⟧ ∗ ⟦ has γ (none, p, a) ⟧ ⊢ ⟦ has γ (some t, p, a) ⟧
     joined γ t p a = subst (λ (z : Row). ⟦ has γ (some t, 0, 0) ⟧ ∗ ⟦ has γ (none, p, a) ⟧ ⊢
         ⟦ has γ z ⟧) (λ i. (some t, zero-add p i, zero-add a i)) (glued γ (some t, 0, 0) (none, p, a))
 
-    -- and that row is a book and a share
+    -- and that row is a ledger and a share
     parted : (γ t p a : ℕ) → Valid whole (some t, p, a) → ⟦ has γ (some t, p, a) ⟧ ⊢ ⟦ has γ (
       some t,
       0,
@@ -123,11 +123,11 @@ module _ (whole : ℕ) where
       p,
       a,
     ) ⟧) (λ i. (some t, zero-add p i, zero-add a i))
-        (cut γ (some t, 0, 0) (none, p, a) tt (book_valid t p a v) (share_valid t p a v))
+        (cut γ (some t, 0, 0) (none, p, a) tt (ledger_valid t p a v) (share_valid t p a v))
 
-    -- a new book, and the share of all its parts
-    pub begins : emp 𝓤 ⊢ H.⇛ (ex 𝓤 (λ (γ : ℕ). ⟦ fsep (book_owns γ whole 0) (share_owns γ whole whole 0) ⟧))
-    unfolding book_owns share_owns
+    -- a new ledger, and the share of all its parts
+    pub begins : emp 𝓤 ⊢ H.⇛ (ex 𝓤 (λ (γ : ℕ). ⟦ fsep (ledger_owns γ whole 0) (share_owns γ whole whole 0) ⟧))
+    unfolding ledger_owns share_owns
     begins =
         let first : Row = (some 0, whole, 0) in
         let v : Valid whole first = (omega arith, (λ _. refl), (omega arith, λ _. refl)) in
@@ -142,13 +142,13 @@ module _ (whole : ℕ) where
         ))) (parted γ 0 whole 0 v) $
         split ! $ fjoin ! $ now ! $ show ! Z γ $ done !)
 
-    -- the book and a share change by the same amount
+    -- the ledger and a share change by the same amount
     pub records : (γ total total' parts amount amount' : ℕ) → (parts ≡ 0 → amount ≡ 0 → amount' ≡ 0) →
         (amount ≤ total → total' + amount ≡ total + amount')
-        → ⟦ book_owns γ whole total ⟧ ∗ ⟦ share_owns γ whole parts amount ⟧
-        ⊢ H.⇛ (guard 𝓤 (Audited whole total parts amount) (⟦ book_owns γ whole total' ⟧ ∗ ⟦ share_owns γ whole parts
+        → ⟦ ledger_owns γ whole total ⟧ ∗ ⟦ share_owns γ whole parts amount ⟧
+        ⊢ H.⇛ (guard 𝓤 (Audited whole total parts amount) (⟦ ledger_owns γ whole total' ⟧ ∗ ⟦ share_owns γ whole parts
         amount' ⟧))
-    unfolding book_owns share_owns
+    unfolding ledger_owns share_owns
     records γ t t' p a a' backs moves =
         qed 𝓛 (‵ (has γ (some t, 0, 0)) ∷ ‵ (has γ (none, p, a)) ∷
         []) {P = H.⇛ (guard 𝓤 (Audited whole t p a) (⟦ has γ (some t', 0, 0) ⟧ ∗ ⟦ has γ (none, p, a') ⟧))} ∵

@@ -1,49 +1,50 @@
--- What the changes of a book and its shares require, and their results.
+-- What the changes of a ledger and its shares require, and their results.
 use Rattle.std.specs.Prelude.{◌≡◌, ℕ, ◌+◌, ◌≤◌}
-use Rattle.txc_base_ledger.specs.declared.book.Book.{Book}
+use Rattle.txc_base_ledger.specs.declared.ledger.Ledger.{Ledger}
 use Rattle.txc_base_ledger.specs.declared.share.Share.{Share}
 
--- a share is of this book
-abbrev pub IsShareOf : Book → Share → Type 0
-IsShareOf book share = (share.name ≡ book.name) × (share.whole ≡ book.whole)
+-- a share is of this ledger
+abbrev pub IsShareOf : Ledger → Share → Type 0
+IsShareOf ledger share = (share.name ≡ ledger.name) × (share.whole ≡ ledger.whole)
 
--- both shares are of the same book
+-- both shares are of the same ledger
 abbrev pub AreOfOne : Share → Share → Type 0
 AreOfOne share other = (other.name ≡ share.name) × (other.whole ≡ share.whole)
 
--- a new book with n parts, and the share with all of them
-pub record AreNew (n : ℕ) (book : Book) (share : Share) : Type 0 where
-  pub of : IsShareOf book share
-  pub whole : book.whole ≡ n
-  pub total : book.total ≡ 0
+-- a new ledger with n parts, and the share with all of them
+pub record AreNew (n : ℕ) (ledger : Ledger) (share : Share) : Type 0 where
+  pub of : IsShareOf ledger share
+  pub whole : ledger.whole ≡ n
+  pub total : ledger.total ≡ 0
   pub parts : share.parts ≡ n
   pub amount : share.amount ≡ 0
 
--- an amount can be added to a share of the book that has a part, and another one subtracted if the share has as much
-pub record CanRecord (plus minus : ℕ) (book : Book) (share : Share) : Type 0 where
-  pub of : IsShareOf book share
+-- an amount can be added to a share of the ledger that has a part, and another one subtracted if the share has as much
+pub record CanRecord (plus minus : ℕ) (ledger : Ledger) (share : Share) : Type 0 where
+  pub of : IsShareOf ledger share
   pub backed : share.parts ≡ 0 → plus ≡ 0
   pub enough : minus ≤ share.amount
 
--- one amount was added to book and share, the other subtracted, and the share's amount was within the book's total
-pub record IsRecorded (plus minus : ℕ) (book : Book) (share : Share) (book' : Book) (share' : Share) : Type 0 where
-  pub same : (book'.name ≡ book.name) × (book'.whole ≡ book.whole)
-  pub total : book'.total + minus ≡ book.total + plus
-  pub of : AreOfOne share share'
-  pub parts : share'.parts ≡ share.parts
-  pub amount : share'.amount + minus ≡ share.amount + plus
-  pub bound : share.amount ≤ book.total
-  pub whole : share.parts ≡ share.whole → share.amount ≡ book.total
-  pub backed : share.parts ≡ 0 → share.amount ≡ 0
+-- one amount was added to ledger and share, the other subtracted, and the share's amount was within the ledger's total
+pub record IsRecorded (plus minus : ℕ) (ledger : Ledger) (share : Share) (ledger' : Ledger) (share' : Share) : Type 0
+  where
+    pub same : (ledger'.name ≡ ledger.name) × (ledger'.whole ≡ ledger.whole)
+    pub total : ledger'.total + minus ≡ ledger.total + plus
+    pub of : AreOfOne share share'
+    pub parts : share'.parts ≡ share.parts
+    pub amount : share'.amount + minus ≡ share.amount + plus
+    pub bound : share.amount ≤ ledger.total
+    pub whole : share.parts ≡ share.whole → share.amount ≡ ledger.total
+    pub backed : share.parts ≡ 0 → share.amount ≡ 0
 
--- the first share stays unchanged, and the one made is of the same book, without a part and without an amount
+-- the first share stays unchanged, and the one made is of the same ledger, without a part and without an amount
 pub record IsEmpty (share share' made : Share) : Type 0 where
   pub same : share' ≡ share
   pub of : AreOfOne share made
   pub parts : made.parts ≡ 0
   pub amount : made.amount ≡ 0
 
--- parts and an amount can move to another share of the book if afterwards neither share has an amount and no part
+-- parts and an amount can move to another share of the ledger if afterwards neither share has an amount and no part
 pub record CanShift (parts amount : ℕ) (from to : Share) : Type 0 where
   pub of : AreOfOne from to
   pub enough_parts : parts ≤ from.parts

@@ -1,4 +1,4 @@
--- What a `Book` and a `Share` own: a row of an algebra in which rows add up.
+-- What a `Ledger` and a `Share` own: a row of an algebra in which rows add up.
 use Rattle.std.specs.Prelude.{◌≡◌, ℕ, ◌+◌, ◌≤◌}
 use mathlib.Core.Path.{refl, sym, ap, ◌∙◌, subst}
 use mathlib.Core.Option.{Option, none, some}
@@ -13,7 +13,7 @@ use base.Algebras.{drawn}
 use base.Ledger.{or, Off, Off-prop, Off-sym, or_comm, or_assoc, Off-assoc}
 use Rattle.txc_base_ledger.specs.Sums.{rest_below, rest_whole, sum_backed, sum_comm, sum_assoc}
 
--- the sum of some shares, with or without the book: the total if the book is included, the parts, and the amount
+-- the sum of some shares, with or without the ledger: the total if the ledger is included, the parts, and the amount
 abbrev pub Row : Type 0
 Row = Option ℕ × ℕ × ℕ
 
@@ -22,12 +22,12 @@ pub rows : SetCoded Row
 rows = via (pair (option (coded coded_ℕ)) (pair (coded coded_ℕ) (coded coded_ℕ))) (λ (x : Row). (x.0, (x.1, x.2)))
     (λ x y e i. ((e i).0, (e i).1.0, (e i).1.1))
 
--- an amount fits the total, if the book is included: it is at most the total, and equal to it for all parts
+-- an amount fits the total, if the ledger is included: it is at most the total, and equal to it for all parts
 abbrev pub FitsWhole : ℕ → ℕ → ℕ → Option ℕ → Type 0
 FitsWhole whole parts amount none = Unit {0}
 FitsWhole whole parts amount (some total) = (amount ≤ total) × (parts ≡ whole → amount ≡ total)
 
--- the parts are at most all parts of the book, without a part there is no amount, and the amount fits
+-- the parts are at most all parts of the ledger, without a part there is no amount, and the amount fits
 abbrev pub Valid : ℕ → Row → Type 0
 Valid whole x = (x.1 ≤ whole) × (x.1 ≡ 0 → x.2 ≡ 0) × FitsWhole whole x.1 x.2 x.0
 
@@ -36,7 +36,7 @@ pub numbers : IsSet ℕ
 numbers = SetCoded-set (coded coded_ℕ)
 
 -- there is at most one proof that an amount fits
-pub fits_prop : (whole parts amount : ℕ) (book : Option ℕ) → IsProp (FitsWhole whole parts amount book)
+pub fits_prop : (whole parts amount : ℕ) (ledger : Option ℕ) → IsProp (FitsWhole whole parts amount ledger)
 fits_prop whole parts amount none = Unit-prop
 fits_prop whole parts amount (some total) = ×_prop le_prop (Π_prop (λ _. numbers amount total))
 
@@ -54,7 +54,7 @@ module _ (whole : ℕ) where
   abbrev pub El : Type 0
   El = (x : Row) × Valid whole x
 
-  -- the third row is the sum of the first two, and at most one of these includes the book
+  -- the third row is the sum of the first two, and at most one of these includes the ledger
   abbrev pub Sum : El → El → El → Type 0
   Sum x y z = Off x.0.0 y.0.0 × (x.0 ⊕ y.0 ≡ z.0)
 
@@ -75,8 +75,8 @@ module _ (whole : ℕ) where
   sum_comms x y z h = (Off-sym x.0.0 y.0.0 h.0, sym (turned x y h.0) ∙ h.1)
 
   -- if the sum of a valid row and a second row is valid, the amount of the second row fits
-  pub rest_fits : (x : El) (book : Option ℕ) (p a : ℕ) → Off x.0.0 book → Valid whole (x.0 ⊕ (book, p, a)) →
-      FitsWhole whole p a book
+  pub rest_fits : (x : El) (ledger : Option ℕ) (p a : ℕ) → Off x.0.0 ledger → Valid whole (x.0 ⊕ (ledger, p, a)) →
+      FitsWhole whole p a ledger
   rest_fits x none p a h v = tt
   rest_fits ((none, q, b), w) (some total) p a h v = (
     rest_below b a total v.2.0,
@@ -127,9 +127,9 @@ module _ (whole : ℕ) where
   abbrev pub holds : ℕ → Row → Fml
   holds name x = fex (Valid whole x) (λ v. fown tally name (x, v))
 
--- the book of this name has this number of parts and this total
-unfoldable pub book_owns : ℕ → ℕ → ℕ → Fml
-book_owns name whole total = holds whole name (some total, 0, 0)
+-- the ledger of this name has this number of parts and this total
+unfoldable pub ledger_owns : ℕ → ℕ → ℕ → Fml
+ledger_owns name whole total = holds whole name (some total, 0, 0)
 
 -- a share of this name has this number of parts and counts this amount
 unfoldable pub share_owns : ℕ → ℕ → ℕ → ℕ → Fml

@@ -1,21 +1,21 @@
 // A share of a ledger.
 ghost use Rattle.std.specs.Prelude.{◌≡◌, ◌≤◌, ◌+◌, ℕ};
 
-use crate::changes::{absorb, empty, shift};
+use crate::changes::{empty, merge_shares, shift};
 use std::marker::{Model, PhantomData};
 
-/// Some parts of the book of the same name, and an amount that counts in its total. A share without a part has no
+/// Some parts of the ledger of the same name, and an amount that counts in its total. A share without a part has no
 /// amount. In a contract it is its name, the number of parts of all shares of that name, its own parts and its amount.
 /// It has no bytes.
 pub struct Share {
     pub(crate) marker: PhantomData<()>,
-    /// The name of its book.
+    /// The name of its ledger.
     pub ghost name: { ℕ },
-    /// The number of parts that all shares of its book have together.
+    /// The number of parts that all shares of its ledger have together.
     pub ghost whole: { ℕ },
     /// The number of its own parts.
     pub ghost parts: { ℕ },
-    /// What it counts in the book's total.
+    /// What it counts in the ledger's total.
     pub ghost amount: { ℕ },
 }
 
@@ -26,7 +26,7 @@ impl Model for Share {
 }
 
 impl Share {
-    /// Makes a share of the same book without a part. It counts nothing.
+    /// Makes a share of the same ledger without a part. It counts nothing.
     pub fn empty(&mut self) -> Share
         ensures same { self.new ≡ self.old }
         ensures of { (result.name ≡ self.old.name) × (result.whole ≡ self.old.whole) }
@@ -36,7 +36,8 @@ impl Share {
         empty(self)
     }
 
-    /// Moves some parts and an amount to another share of the same book. After that each share with an amount must have
+    /// Moves some parts and an amount to another share of the same ledger. After that each share with an amount must
+    /// have
     /// a part.
     pub fn give(&mut self, to: &mut Share, parts: u64, amount: u64)
         requires of { (to.old.name ≡ self.old.name) × (to.old.whole ≡ self.old.whole) }
@@ -53,7 +54,7 @@ impl Share {
         shift(self, to, parts, amount);
     }
 
-    /// Adds the parts and the amount of another share of the same book to this share.
+    /// Adds the parts and the amount of another share of the same ledger to this share.
     pub fn merge(&mut self, other: Share)
         requires of { (other.name ≡ self.old.name) × (other.whole ≡ self.old.whole) }
         ensures same { (self.new.name ≡ self.old.name) × (self.new.whole ≡ self.old.whole) }
@@ -62,10 +63,10 @@ impl Share {
         ensures apart { self.new.parts ≤ self.old.whole }
     {
         let mut other = other;
-        absorb(self, &mut other);
+        merge_shares(self, &mut other);
     }
 
-    /// Moves some parts and an amount to a new share of the same book, and returns it. After that each share with an
+    /// Moves some parts and an amount to a new share of the same ledger, and returns it. After that each share with an
     /// amount must have a part.
     pub fn split_off(&mut self, parts: u64, amount: u64) -> Share
         requires enough_parts { parts ≤ self.old.parts }

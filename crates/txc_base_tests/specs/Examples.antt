@@ -4,7 +4,7 @@ use Rattle.txc_base.specs.declared.item.Item.{Item}
 use Rattle.txc_base.specs.declared.kind.Kind.{Kind}
 use Rattle.txc_base.specs.declared.kind.Kind.TheVariants.{Queue, Bounded, Cast, MQueue, BMQueue}
 use Rattle.txc_base.specs.Channel.{Channel}
-use Rattle.txc_base.specs.declared.limits.TheConstants.{MOST_READERS}
+use Rattle.txc_base.specs.declared.limits.TheConstants.{MAX_READERS}
 
 -- a channel with these lists
 abbrev pub channel : Kind → ℕ → Bool → ℕ → ℕ → List (List Item) → Channel
@@ -33,4 +33,4 @@ tchan written backs lists = channel Cast 0 false written backs lists
 
 -- the most readers that there can be, with nothing to read
 abbrev pub crowd : List (List Item)
-crowd = replicate MOST_READERS []
+crowd = replicate MAX_READERS []

@@ -218,7 +218,7 @@ fn copy_of(rt: &impl Abort, list: &List<Item>) -> List<Item> {
 
 /// Asserts what was read last after a reply, given what was read last before.
 fn leaves_last(rt: &impl Abort, reply: &Reply, before: Option<u64>, after: Option<u64>) {
-    assert_eq!(rt; reply.last_after(before), after);
+    assert_eq!(rt; reply.last_read_after(before), after);
 }
 
 /// Asserts what was read last after each of three replies.

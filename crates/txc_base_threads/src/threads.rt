@@ -1,6 +1,6 @@
 // One thread per task.
 ghost use Rattle.std.specs.Prelude.{◌<◌, ℕ, IfOk, slice_index_or, vec_len};
-ghost use Rattle.txc_base_threads.specs.Came.{AllCame};
+ghost use Rattle.txc_base_threads.specs.Postcondition.{AllRelated};
 ghost use denote.Param.Send.{IsSend, IsSync};
 
 use crate::start_error::StartError;
@@ -22,7 +22,7 @@ pub fn run_all<
     O: Send + Drop + 'a,
 >(rt: &'a R, alloc: Global, tasks: Vec<J>) -> Result<Vec<O>, StartError>
     requires can { (k : ℕ) (j : _) → k < vec_len tasks → J.Can (slice_index_or tasks.items k j) }
-    ensures came { IfOk result (λ outputs. AllCame J.Does tasks.items outputs.items) }
+    ensures came { IfOk result (λ outputs. AllRelated J.Does tasks.items outputs.items) }
 {
     thread::scope(
         thread::scope_env::<'a>(),
@@ -32,7 +32,7 @@ pub fn run_all<
             requires task { IsSend J.row }
             requires output { IsSend O.row }
             requires can { (k : ℕ) (j : _) → k < vec_len tasks → J.Can (slice_index_or tasks.items k j) }
-            ensures came { IfOk result (λ outputs. AllCame J.Does tasks.items outputs.items) }
+            ensures came { IfOk result (λ outputs. AllRelated J.Does tasks.items outputs.items) }
         {
             let mut threads = Vec::new(alloc);
             threads.reserve(tasks.len())?;

@@ -17,15 +17,15 @@ abbrev reader_with : List Item → ℕ → Reader
 reader_with list undoable = record { list = list; undoable = undoable }
 
 abbrev IsWithin : ℕ → ReaderState → Type 0
-IsWithin n standing = standing.place ≤ n
+IsWithin n standing = standing.position ≤ n
 
-longer : (items : List Item) (item : Item) (standing : ReaderState) → standing.place ≤ length items
+longer : (items : List Item) (item : Item) (standing : ReaderState) → standing.position ≤ length items
     → reader_standing (items ++ item ∷ []) standing ≡ with_last item (reader_standing items standing)
 longer items item standing within =
     ap (λ list. reader_with (standing.backs ++ list) standing.undoable)
-    (drop-append-le standing.place items (item ∷ []) within)
+    (drop-append-le standing.position items (item ∷ []) within)
     ∙ ap (λ list. reader_with list standing.undoable)
-    (sym (append_assoc standing.backs (drop standing.place items) (item ∷ [])))
+    (sym (append_assoc standing.backs (drop standing.position items) (item ∷ [])))
 
 -- every reader gets an item that is written behind all others
 all_longer : (items : List Item) (item : Item) (standings : List ReaderState) → All (IsWithin (length items)) standings
@@ -45,7 +45,7 @@ grows shelf tokens tokens' standings token placed is =
     let within : All (IsWithin (length (items_shown tokens))) standings =
     All-weaker (IsPlaced (length tokens)) (IsWithin (length (items_shown tokens)))
     (λ standing p. let e = length-map tokens (λ (t : Where Item). t.value) in
-    let w : standing.place ≤ length tokens = p.within in omega arith) standings placed in
+    let w : standing.position ≤ length tokens = p.within in omega arith) standings placed in
     ap (λ (ts : List (Where Item)). broadcast shelf ts standings) is
     ∙ ap (λ (items : List Item). record {
       items = items;
@@ -95,14 +95,14 @@ shrinks before item slot =
 
 -- a reader that has a written item stands before it
 before_last : (items : List Item) (standing : ReaderState) → All IsBack standing.backs
-    → HasWritten (reader_standing items standing) → standing.place < length items
+    → HasWritten (reader_standing items standing) → standing.position < length items
 before_last items standing put has = ⊎_elim (λ within. within) (λ past.
-    let same : standing.backs ++ drop standing.place items ≡ standing.backs =
-    ap (λ rest. standing.backs ++ rest) (drop_all standing.place items past) ∙ append-nil standing.backs in
+    let same : standing.backs ++ drop standing.position items ≡ standing.backs =
+    ap (λ rest. standing.backs ++ rest) (drop_all standing.position items past) ∙ append-nil standing.backs in
     let some : Any IsWritten standing.backs = subst (Any IsWritten) same has in
     let back : IsBack (get_or standing.backs some.0 some.1) = put some.0 some.1 some.2 in
     let written : IsWritten (get_or standing.backs some.0 some.1) = subst IsWritten (sym some.3) some.4 in
-    absurd (let no : ⊥ = cc in no)) (cases_lt standing.place (length items))
+    absurd (let no : ⊥ = cc in no)) (cases_lt standing.position (length items))
 
 -- where every reader has a written item, all stand before the last
 pub all_before_last : (items : List Item) (n m : ℕ) (standings : List ReaderState) → n ≡ length items → n ≡ m + 1

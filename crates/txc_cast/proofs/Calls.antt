@@ -85,7 +85,8 @@ pub untakes_written : (shelf : Shelves) (tokens : List (Where Item)) (standings 
     (n : ℕ) (item : Item) (number : ℕ) (standing : ReaderState)
     → IsSoundCast shelf tokens standings → IsAs shelf tokens standings cast → standing ≡ get_or standings n standing
     → CanUntakeAt cast n item → item.origin ≡ Written number
-    → (0 < standing.place) × (broadcast shelf tokens (set standings n (record standing { place = standing.place - 1 }))
+    → (0 < standing.position) × (broadcast shelf tokens (set standings n
+    (record standing { position = standing.position - 1 }))
     ≡ untaken cast n item)
 untakes_written shelf tokens standings cast n item number standing kept viewed is can origin =
     let here = can_be_untaken shelf tokens standings cast n item standing viewed is can in

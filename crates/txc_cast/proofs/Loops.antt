@@ -49,34 +49,35 @@ settles shelf tokens standings new cast kept viewed is = (
 )
 
 -- one item more is copied
-pub copies : (tokens : List (Where Item)) (from place : ℕ) (front list new : List Item) (token : Where Item)
+pub copies : (tokens : List (Where Item)) (from position : ℕ) (front list new : List Item) (token : Where Item)
     (item : Item)
-    → from ≤ place → place < length tokens → token ≡ get_or tokens place token → item ≡ token.value
-    → list ≡ front ++ take (place - from) (drop from (items_shown tokens)) → new ≡ list ++ item ∷ []
-    → new ≡ front ++ take (place + 1 - from) (drop from (items_shown tokens))
-copies tokens from place front list new token item after within is value so_far more =
+    → from ≤ position → position < length tokens → token ≡ get_or tokens position token → item ≡ token.value
+    → list ≡ front ++ take (position - from) (drop from (items_shown tokens)) → new ≡ list ++ item ∷ []
+    → new ≡ front ++ take (position + 1 - from) (drop from (items_shown tokens))
+copies tokens from position front list new token item after within is value so_far more =
     let items : List Item = items_shown tokens in
     let many = length-map tokens (λ (t : Where Item). t.value) in
     let left = length-drop from items in
-    let here : get_or (drop from items) (place - from) item ≡ item =
-    get_or-drop from items (place - from) item
-    ∙ ap (λ n. get_or items n item) (let there : from + (place - from) ≡ place = omega arith in there)
-    ∙ get_or-map (λ (t : Where Item). t.value) tokens place token item within
+    let here : get_or (drop from items) (position - from) item ≡ item =
+    get_or-drop from items (position - from) item
+    ∙ ap (λ n. get_or items n item) (let there : from + (position - from) ≡ position = omega arith in there)
+    ∙ get_or-map (λ (t : Where Item). t.value) tokens position token item within
     ∙ ap (λ (t : Where Item). t.value) (sym is) ∙ sym value in
-    let next : take (place - from + 1) (drop from items) ≡ take (place - from) (drop from items) ++ item ∷ [] =
-    take_more (drop from items) (place - from) item (omega arith)
-    ∙ ap (λ i. take (place - from) (drop from items) ++ i ∷ []) here in
-    more ∙ ap (λ l. l ++ item ∷ []) so_far ∙ append_assoc front (take (place - from) (drop from items)) (item ∷ [])
+    let next : take (position - from + 1) (drop from items) ≡ take (position - from) (drop from items) ++ item ∷ [] =
+    take_more (drop from items) (position - from) item (omega arith)
+    ∙ ap (λ i. take (position - from) (drop from items) ++ i ∷ []) here in
+    more ∙ ap (λ l. l ++ item ∷ []) so_far ∙ append_assoc front (take (position - from) (drop from items)) (item ∷ [])
     ∙ ap (λ l. front ++ l) (sym next)
-    ∙ ap (λ n. front ++ take n (drop from items)) (let count : place - from + 1 ≡ place + 1 - from = omega arith in
+    ∙ ap (λ n. front ++ take n (drop from items)) (let count : position - from + 1 ≡ position
+    + 1 - from = omega arith in
     count)
 
 -- when all is copied
-pub copied : (items : List Item) (standing : ReaderState) (from place : ℕ) (front list : List Item)
-    → front ≡ standing.backs → from ≡ standing.place
-    → length items ≤ place → list ≡ front ++ take (place - from) (drop from items)
+pub copied : (items : List Item) (standing : ReaderState) (from position : ℕ) (front list : List Item)
+    → front ≡ standing.backs → from ≡ standing.position
+    → length items ≤ position → list ≡ front ++ take (position - from) (drop from items)
     → list ≡ (reader_standing items standing).list
-copied items standing from place front list backs at past is =
+copied items standing from position front list backs at past is =
     let left = length-drop from items in
-    is ∙ ap (λ rest. front ++ rest) (take_all (place - from) (drop from items) (omega arith))
+    is ∙ ap (λ rest. front ++ rest) (take_all (position - from) (drop from items) (omega arith))
     ∙ ap (λ l. l ++ drop from items) backs ∙ ap (λ n. standing.backs ++ drop n items) at

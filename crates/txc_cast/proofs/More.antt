@@ -4,7 +4,7 @@ use Rattle.std.proofs.lemmas.List.{length-map, length_push, map_push, drop_all}
 use Rattle.std.proofs.lemmas.List.Elements.{All-push, All-nil}
 use Rattle.boxcar.specs.Table.{Shelves, Where}
 use Rattle.txc_base.specs.declared.item.Item.{Item}
-use Rattle.txc_base.specs.declared.limits.TheConstants.{MOST_READERS}
+use Rattle.txc_base.specs.declared.limits.TheConstants.{MAX_READERS}
 use Rattle.txc_cast.specs.Reader.{Reader, fresh, clone_of, IsBack}
 use Rattle.txc_cast.specs.Standing.{ReaderState, IsPlaced, reader_standing, readers_standing, standing_at, at_rest}
 use Rattle.txc_cast.specs.Broadcast.{Broadcast, with_new_reader, reader_at}
@@ -30,7 +30,7 @@ pub stands_with : (shelf : Shelves) (tokens : List (Where Item)) (standings left
     (cast : Broadcast) (standing : ReaderState)
     → IsSoundCast shelf tokens standings → broadcast shelf tokens standings ≡ cast → left ≡ standings
     → new ≡ left ++ standing ∷ []
-    → length cast.readers < MOST_READERS → IsPlaced (length tokens) standing → IsSoundCast shelf tokens new
+    → length cast.readers < MAX_READERS → IsPlaced (length tokens) standing → IsSoundCast shelf tokens new
 stands_with shelf tokens standings left new cast standing kept viewed same more few placed =
     subst (IsSoundCast shelf tokens) (sym (more ∙ ap (λ (list : List ReaderState). list ++ standing ∷ []) same))
     (record {
@@ -46,13 +46,13 @@ stands_with shelf tokens standings left new cast standing kept viewed same more 
     })
 
 -- a reader that begins behind all that is written
-pub behind_all : (tokens : List (Where Item)) (place : ℕ) (standing : ReaderState) → length tokens ≡ place
-    → standing ≡ standing_at place
+pub behind_all : (tokens : List (Where Item)) (position : ℕ) (standing : ReaderState) → length tokens ≡ position
+    → standing ≡ standing_at position
     → reader_standing (items_shown tokens) standing ≡ fresh
-behind_all tokens place standing all is =
+behind_all tokens position standing all is =
     ap (reader_standing (items_shown tokens)) is
     ∙ ap (λ (list : List Item). record { list = list; undoable = 0 })
-    (drop_all place (items_shown tokens) (let many = length-map tokens (λ (t : Where Item). t.value) in omega arith))
+    (drop_all position (items_shown tokens) (let many = length-map tokens (λ (t : Where Item). t.value) in omega arith))
 
 -- there are as many items as tokens
 pub all_of : (shelf : Shelves) (tokens : List (Where Item)) (standings : List ReaderState) (cast : Broadcast) (n : ℕ)
@@ -62,9 +62,9 @@ all_of shelf tokens standings cast n viewed is =
     sym (is ∙ sym (ap (λ (b : Broadcast). length b.items) viewed) ∙ length-map tokens (λ (t : Where Item). t.value))
 
 -- it may stand behind them all
-pub last_placed : (tokens : List (Where Item)) (place : ℕ) (standing : ReaderState) → length tokens ≡ place
-    → standing ≡ standing_at place → IsPlaced (length tokens) standing
-last_placed tokens place standing all is =
+pub last_placed : (tokens : List (Where Item)) (position : ℕ) (standing : ReaderState) → length tokens ≡ position
+    → standing ≡ standing_at position → IsPlaced (length tokens) standing
+last_placed tokens position standing all is =
     subst (IsPlaced (length tokens)) (sym is) (record { within = omega arith; backs = All-nil IsBack })
 
 -- a clone has what its reader has to read

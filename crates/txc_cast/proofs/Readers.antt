@@ -156,13 +156,13 @@ read_at shelf tokens standings got cast n standing viewed same within at =
     ∙ ap (λ (b : Broadcast). reader_at b n) viewed
 
 -- what stands first behind a place
-head_behind : (place : ℕ) (items : List Item) → slice_get (drop place items) 0 ≡ slice_get items place
-head_behind place items = ⊎_elim (λ found.
+head_behind : (position : ℕ) (items : List Item) → slice_get (drop position items) 0 ≡ slice_get items position
+head_behind position items = ⊎_elim (λ found.
     let x : Item = found.0 in
-    ap (λ (list : List Item). slice_get list 0) (drop_more items place x found.1) ∙ ap Some found.3 ∙ sym found.2)
+    ap (λ (list : List Item). slice_get list 0) (drop_more items position x found.1) ∙ ap Some found.3 ∙ sym found.2)
     (λ past.
-    ap (λ (list : List Item). slice_get list 0) (drop_all place items past.0) ∙ sym past.1)
-    (slice_get_cases items place).1
+    ap (λ (list : List Item). slice_get list 0) (drop_all position items past.0) ∙ sym past.1)
+    (slice_get_cases items position).1
 
 front_of : (backs rest : List Item) (item : Item) → slice_get backs 0 ≡ Some item
     → slice_get (backs ++ rest) 0 ≡ Some item
@@ -182,12 +182,12 @@ pub answers_back : (items : List Item) (cast : Broadcast) (n : ℕ) (standing : 
     → slice_get cast.readers n ≡ Some (reader_standing items standing)
     → slice_get standing.backs 0 ≡ Some item → Ok (Some item) ≡ first_of cast n
 answers_back items cast n standing item here first =
-    sym (ap first_in here ∙ ap Ok (front_of standing.backs (drop standing.place items) item first))
+    sym (ap first_in here ∙ ap Ok (front_of standing.backs (drop standing.position items) item first))
 
 -- and one without what is written at its place
 pub answers_written : (items : List Item) (cast : Broadcast) (n : ℕ) (standing : ReaderState) (answer : Option Item)
     → slice_get cast.readers n ≡ Some (reader_standing items standing)
-    → slice_get standing.backs 0 ≡ None → answer ≡ slice_get items standing.place → Ok answer ≡ first_of cast n
+    → slice_get standing.backs 0 ≡ None → answer ≡ slice_get items standing.position → Ok answer ≡ first_of cast n
 answers_written items cast n standing answer here none is =
-    sym (ap first_in here ∙ ap Ok (no_front_of standing.backs (drop standing.place items) none
-    ∙ head_behind standing.place items ∙ sym is))
+    sym (ap first_in here ∙ ap Ok (no_front_of standing.backs (drop standing.position items) none
+    ∙ head_behind standing.position items ∙ sym is))

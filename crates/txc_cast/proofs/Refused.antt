@@ -6,7 +6,7 @@ use Rattle.std.proofs.lemmas.Bool.{lt-ltb, le-ltb, le-leb}
 use Rattle.std.proofs.lemmas.List.{length-map, length-replicate}
 use Rattle.boxcar.specs.Table.{Shelves, Where}
 use Rattle.txc_base.specs.declared.item.Item.{Item}
-use Rattle.txc_base.specs.declared.limits.TheConstants.{MOST_READERS}
+use Rattle.txc_base.specs.declared.limits.TheConstants.{MAX_READERS}
 use Rattle.txc_cast.specs.Reader.{fresh}
 use Rattle.txc_cast.specs.declared.fault.CastFault.{CastFault}
 use Rattle.txc_cast.specs.declared.fault.CastFault.TheVariants.{NoReader, TooManyReaders, NoMemory}
@@ -70,17 +70,17 @@ same_fault (Ok answer) fault is why = absurd (let bad : ⊥ = cc in bad)
 same_fault (Err other) fault is why = ap named why
 
 -- not too many to open with
-pub opens : (readers : ℕ) → readers ≤ MOST_READERS → None ≡ opening_refusal readers
-opens readers few = sym (ap (λ (b : Bool). if b then None else Some TooManyReaders) (le-leb readers MOST_READERS few))
+pub opens : (readers : ℕ) → readers ≤ MAX_READERS → None ≡ opening_refusal readers
+opens readers few = sym (ap (λ (b : Bool). if b then None else Some TooManyReaders) (le-leb readers MAX_READERS few))
 
 -- nor for one more
 pub opens_more : (readers counter : ℕ) (shelf : Shelves) (cast : Broadcast) → cast ≡ unwritten counter shelf
-    → counter < readers → readers ≤ MOST_READERS
+    → counter < readers → readers ≤ MAX_READERS
     → place_refusal cast ≡ None
 opens_more readers counter shelf cast is less few =
     ap place_refusal is
     ∙ ap (λ (b : Bool). if b then None else Some TooManyReaders)
-    (lt-ltb (length (replicate counter fresh)) MOST_READERS (let many = length-replicate counter fresh in omega arith))
+    (lt-ltb (length (replicate counter fresh)) MAX_READERS (let many = length-replicate counter fresh in omega arith))
 
 -- with none at first
 pub empty : (shelf same : Shelves) (tokens : List (Where Item)) (standings : List ReaderState) → same ≡ shelf

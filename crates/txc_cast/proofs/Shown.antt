@@ -4,7 +4,7 @@ use Rattle.std.proofs.lemmas.List.{length-map, take-append-drop}
 use Rattle.std.proofs.lemmas.List.Elements.{All-map, All-weaker}
 use Rattle.boxcar.specs.Table.{Shelves, Where}
 use Rattle.txc_base.specs.declared.item.Item.{Item}
-use Rattle.txc_base.specs.declared.limits.TheConstants.{MOST_READERS}
+use Rattle.txc_base.specs.declared.limits.TheConstants.{MAX_READERS}
 use Rattle.txc_cast.specs.Standing.{ReaderState, IsPlaced, reader_standing}
 use Rattle.txc_cast.specs.Broadcast.{Broadcast, IsReaderOf, IsWell}
 use Rattle.txc_cast.specs.Kept.{broadcast, items_shown, IsSoundCast}
@@ -13,9 +13,9 @@ reads : (items : List Item) (n : ℕ) (standing : ReaderState) → IsPlaced n st
     → IsReaderOf items (reader_standing items standing)
 reads items n standing placed = record {
   backs = standing.backs;
-  rest = drop standing.place items;
+  rest = drop standing.position items;
   put = placed.backs;
-  end = (take standing.place items, sym (take-append-drop standing.place items));
+  end = (take standing.position items, sym (take-append-drop standing.position items));
   list = refl;
 }
 
@@ -28,5 +28,5 @@ shows shelf tokens standings cast kept viewed = subst IsWell viewed (record {
       (All-weaker (IsPlaced (length tokens))
       (λ (s : ReaderState). IsReaderOf (items_shown tokens) (reader_standing (items_shown tokens) s))
       (reads (items_shown tokens) (length tokens)) standings kept.placed);
-  few = subst (λ n. n ≤ MOST_READERS) (sym (length-map standings (reader_standing (items_shown tokens)))) kept.few;
+  few = subst (λ n. n ≤ MAX_READERS) (sym (length-map standings (reader_standing (items_shown tokens)))) kept.few;
 })

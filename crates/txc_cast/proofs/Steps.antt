@@ -23,20 +23,21 @@ written_front [] written begins = begins
 written_front (item ∷ list) written begins = not_both item begins (All-head IsWritten item list written)
 
 -- a list that begins with a put-back has one in front of all that is written
-ungiven_of : (items : List Item) (place : ℕ) (backs : List Item) (undoable : ℕ) → All IsWritten items
-    → IsSomeAnd (slice_get (backs ++ drop place items) 0) IsBack
-    → reader_with (drop 1 backs ++ drop place items) undoable ≡ reader_with (drop 1 (backs ++ drop place items))
+ungiven_of : (items : List Item) (position : ℕ) (backs : List Item) (undoable : ℕ) → All IsWritten items
+    → IsSomeAnd (slice_get (backs ++ drop position items) 0) IsBack
+    → reader_with (drop 1 backs ++ drop position items) undoable ≡ reader_with (drop 1 (backs ++ drop position items))
     undoable
-ungiven_of items place [] undoable written begins =
-    absurd (written_front (drop place items) (All-drop IsWritten place items written) begins)
-ungiven_of items place (back ∷ backs) undoable written begins = refl
+ungiven_of items position [] undoable written begins =
+    absurd (written_front (drop position items) (All-drop IsWritten position items written) begins)
+ungiven_of items position (back ∷ backs) undoable written begins = refl
 
 -- the latest put-back is taken off
 pub ungives : (items : List Item) (standing : ReaderState) → All IsWritten items
     → BeginsWithBack (reader_standing items standing)
     → reader_standing items (record standing { backs = drop 1 standing.backs })
     ≡ without_front (reader_standing items standing)
-ungives items standing written begins = ungiven_of items standing.place standing.backs standing.undoable written begins
+ungives items standing written begins = ungiven_of items standing.position standing.backs standing.undoable written
+    begins
 
 back_counts : (item : Item) → IsBack item → back_count item ≡ 1
 back_counts item back = ap (λ (b : Bool). if b then 1 else 0) back
@@ -45,48 +46,50 @@ written_counts : (item : Item) → IsWritten item → back_count item ≡ 0
 written_counts item written = ap (λ (b : Bool). if b then 1 else 0) written
 
 -- a reader without put-backs that has a first item stands before a written one
-before_written : (items : List Item) (place : ℕ) (item : Item) → slice_get (drop place items) 0 ≡ Some item
-    → place < length items
-before_written items place item first = ⊎_elim (λ within. within) (λ past.
-    let none : slice_get (drop place items) 0 ≡ None = ap (λ (list : List Item). slice_get list 0)
-    (drop_all place items past) in
-    absurd (let no : ⊥ = cc in no)) (cases_lt place (length items))
+before_written : (items : List Item) (position : ℕ) (item : Item) → slice_get (drop position items) 0 ≡ Some item
+    → position < length items
+before_written items position item first = ⊎_elim (λ within. within) (λ past.
+    let none : slice_get (drop position items) 0 ≡ None = ap (λ (list : List Item). slice_get list 0)
+    (drop_all position items past) in
+    absurd (let no : ⊥ = cc in no)) (cases_lt position (length items))
 
-step_on : (items : List Item) (place : ℕ) (backs : List Item) (undoable : ℕ) (item : Item) → All IsWritten items
+step_on : (items : List Item) (position : ℕ) (backs : List Item) (undoable : ℕ) (item : Item) → All IsWritten items
     → All IsBack backs
-    → slice_get (backs ++ drop place items) 0 ≡ Some item
-    → reader_standing items (step_from place backs undoable) ≡ after_take (backs ++ drop place items) undoable
-step_on items place [] undoable item written put first =
-    let within : place < length items = before_written items place item first in
-    let none : back_count (get_or items place item) ≡ 0 = written_counts (get_or items place item)
-    (All-get_or IsWritten items place item within written) in
-    sym (ap (λ list. after_take list undoable) (drop_more items place item within)
-    ∙ ap (λ n. reader_with (drop (place + 1) items) (undoable + n)) none
-    ∙ ap (reader_with (drop (place + 1) items)) (add-zero undoable))
-step_on items place (back ∷ backs) undoable item written put first =
-    ap (λ n. reader_with (backs ++ drop place items) (undoable + n))
+    → slice_get (backs ++ drop position items) 0 ≡ Some item
+    → reader_standing items (step_from position backs undoable) ≡ after_take (backs ++ drop position items) undoable
+step_on items position [] undoable item written put first =
+    let within : position < length items = before_written items position item first in
+    let none : back_count (get_or items position item) ≡ 0 = written_counts (get_or items position item)
+    (All-get_or IsWritten items position item within written) in
+    sym (ap (λ list. after_take list undoable) (drop_more items position item within)
+    ∙ ap (λ n. reader_with (drop (position + 1) items) (undoable + n)) none
+    ∙ ap (reader_with (drop (position + 1) items)) (add-zero undoable))
+step_on items position (back ∷ backs) undoable item written put first =
+    ap (λ n. reader_with (backs ++ drop position items) (undoable + n))
     (sym (back_counts back (All-head IsBack back backs put)))
 
 -- a step takes the first item of the list
 pub steps : (items : List Item) (standing : ReaderState) (item : Item) → All IsWritten items → All IsBack standing.backs
     → slice_get (reader_standing items standing).list 0 ≡ Some item
     → reader_standing items (stepped standing) ≡ with_taken (reader_standing items standing)
-steps items standing item written put first = step_on items standing.place standing.backs standing.undoable item written
+steps items standing item written put first = step_on items standing.position standing.backs standing.undoable item
+    written
     put first
 
-stays_on : (items : List Item) (n place : ℕ) (backs : List Item) (undoable : ℕ) (item : Item) → n ≡ length items
-    → place ≤ n → All IsBack backs
-    → slice_get (backs ++ drop place items) 0 ≡ Some item → IsPlaced n (step_from place backs undoable)
-stays_on items n place [] undoable item is within put first =
-    let more : place < length items = before_written items place item first in
+stays_on : (items : List Item) (n position : ℕ) (backs : List Item) (undoable : ℕ) (item : Item) → n ≡ length items
+    → position ≤ n → All IsBack backs
+    → slice_get (backs ++ drop position items) 0 ≡ Some item → IsPlaced n (step_from position backs undoable)
+stays_on items n position [] undoable item is within put first =
+    let more : position < length items = before_written items position item first in
     record { within = omega arith; backs = put }
-stays_on items n place (back ∷ backs) undoable item is within put first =
+stays_on items n position (back ∷ backs) undoable item is within put first =
     record { within = within; backs = All-tail IsBack back backs put }
 
 -- a step that takes an item stays among the items
 pub stays : (items : List Item) (n : ℕ) (standing : ReaderState) (item : Item) → n ≡ length items → IsPlaced n standing
     → slice_get (reader_standing items standing).list 0 ≡ Some item → IsPlaced n (stepped standing)
-stays items n standing item is placed first = stays_on items n standing.place standing.backs standing.undoable item is
+stays items n standing item is placed first = stays_on items n standing.position standing.backs standing.undoable item
+    is
     placed.within placed.backs first
 
 nothing_of : (list : List Item) (undoable : ℕ) → slice_get list 0 ≡ None
@@ -99,35 +102,35 @@ pub takes_nothing : (reader : Reader) → slice_get reader.list 0 ≡ None → w
 takes_nothing reader none = nothing_of reader.list reader.undoable none
 
 -- the written items from a place inside them on, after some that are all written
-unread_of : (items front : List Item) (backs : List Item) (place : ℕ) (item : Item) → All IsWritten items
-    → All IsBack backs → place ≤ length items
-    → items ≡ front ++ (item ∷ (backs ++ drop place items)) → (0 < place)
-    × (backs ++ drop (place - 1) items ≡ item ∷ (backs ++ drop place items))
-unread_of items front [] place item written put within is =
-    let rest : List Item = drop place items in
-    let all : length items ≡ length front + (1 + (length items - place)) =
-    ap length is ∙ length-append front (item ∷ rest) ∙ (let n = length-drop place items in omega arith) in
-    (omega arith, ap (drop (place - 1)) is ∙ drop_at front (item ∷ rest) (place - 1) (omega arith))
-unread_of items front (back ∷ backs) place item written put within is =
-    let rest : List Item = back ∷ (backs ++ drop place items) in
+unread_of : (items front : List Item) (backs : List Item) (position : ℕ) (item : Item) → All IsWritten items
+    → All IsBack backs → position ≤ length items
+    → items ≡ front ++ (item ∷ (backs ++ drop position items)) → (0 < position)
+    × (backs ++ drop (position - 1) items ≡ item ∷ (backs ++ drop position items))
+unread_of items front [] position item written put within is =
+    let rest : List Item = drop position items in
+    let all : length items ≡ length front + (1 + (length items - position)) =
+    ap length is ∙ length-append front (item ∷ rest) ∙ (let n = length-drop position items in omega arith) in
+    (omega arith, ap (drop (position - 1)) is ∙ drop_at front (item ∷ rest) (position - 1) (omega arith))
+unread_of items front (back ∷ backs) position item written put within is =
+    let rest : List Item = back ∷ (backs ++ drop position items) in
     let ends : drop (length front) items ≡ item ∷ rest = ap (drop (length front)) is
     ∙ drop_at front (item ∷ rest) (length front) refl in
     let all : All IsWritten (item ∷ rest) = All-same IsWritten (item ∷ rest) (drop (length front) items) (sym ends)
     (All-drop IsWritten (length front) items written) in
     absurd (not_both back (All-head IsBack back backs put)
-    (All-head IsWritten back (backs ++ drop place items) (All-tail IsWritten item rest all)))
+    (All-head IsWritten back (backs ++ drop position items) (All-tail IsWritten item rest all)))
 
 -- a written item is in front again
 pub unreads : (items : List Item) (n : ℕ) (standing : ReaderState) (item : Item) (number : ℕ)
     → item.origin ≡ Written number → n ≡ length items → All IsWritten items → IsPlaced n standing
     → CanUntake items item (reader_standing items standing)
-    → (0 < standing.place) × (reader_standing items (record standing { place = standing.place - 1 })
+    → (0 < standing.position) × (reader_standing items (record standing { position = standing.position - 1 })
     ≡ with_untaken item (reader_standing items standing))
 unreads items n standing item number is all written placed can =
     let ends : IsTail items (item ∷ (reader_standing items standing).list) =
     subst (λ origin. CanUntakeFrom origin items item (reader_standing items standing)) is can in
-    let within : standing.place ≤ n = placed.within in
-    let back = unread_of items ends.0 standing.backs standing.place item written placed.backs (omega arith) ends.1 in
+    let within : standing.position ≤ n = placed.within in
+    let back = unread_of items ends.0 standing.backs standing.position item written placed.backs (omega arith) ends.1 in
     let none : back_count item ≡ 0 = written_counts item (ap is_back_from is) in (
       back.0,
       ap (λ list. reader_with list standing.undoable) back.1

@@ -4,7 +4,7 @@ use Rattle.std.specs.Prelude.{slice_set, slice_index_or, Option, Some, None, Res
 use Rattle.std.specs.Prelude.{nat_lt, IsSomeAnd, All}
 use Rattle.boxcar.specs.Table.{Shelves}
 use Rattle.txc_base.specs.declared.item.Item.{Item}
-use Rattle.txc_base.specs.declared.limits.TheConstants.{MOST_READERS}
+use Rattle.txc_base.specs.declared.limits.TheConstants.{MAX_READERS}
 use Rattle.txc_cast.specs.declared.fault.CastFault.{CastFault}
 use Rattle.txc_cast.specs.declared.fault.CastFault.TheVariants.{NoReader, TooManyReaders}
 use Rattle.txc_cast.specs.Reader.{Reader, fresh, with_taken, with_last, with_front, with_untaken, without_last_item}
@@ -99,17 +99,17 @@ all_settled cast = record cast { readers = map settled_reader cast.readers }
 abbrev pub reader_refusal : Broadcast → ℕ → Option CastFault
 reader_refusal cast reader = if nat_lt reader (length cast.readers) then None else Some NoReader
 
--- the error if there are `MOST_READERS` readers already
+-- the error if there are `MAX_READERS` readers already
 abbrev pub place_refusal : Broadcast → Option CastFault
-place_refusal cast = if nat_lt (length cast.readers) MOST_READERS then None else Some TooManyReaders
+place_refusal cast = if nat_lt (length cast.readers) MAX_READERS then None else Some TooManyReaders
 
--- the error if there is no such reader, or there are `MOST_READERS` readers already
+-- the error if there is no such reader, or there are `MAX_READERS` readers already
 abbrev pub clone_refusal : Broadcast → ℕ → Option CastFault
 clone_refusal cast reader = if nat_lt reader (length cast.readers) then place_refusal cast else Some NoReader
 
--- the error if a new list would have more than `MOST_READERS` readers
+-- the error if a new list would have more than `MAX_READERS` readers
 abbrev pub opening_refusal : ℕ → Option CastFault
-opening_refusal readers = if nat_le readers MOST_READERS then None else Some TooManyReaders
+opening_refusal readers = if nat_le readers MAX_READERS then None else Some TooManyReaders
 
 -- the last append can be undone: something is written, and each reader has a written item to read
 abbrev pub CanUnappend : Broadcast → Type 0
@@ -136,7 +136,7 @@ pub record IsWell (cast : Broadcast) : Type 0 where
   pub written : All IsWritten cast.items
   pub slots : length cast.slots ≡ length cast.items
   pub readers : All (IsReaderOf cast.items) cast.readers
-  pub few : length cast.readers ≤ MOST_READERS
+  pub few : length cast.readers ≤ MAX_READERS
 
 -- the undo of an append gives the list from before it
 abbrev pub UndoesAppend : Broadcast → Broadcast → Type 0

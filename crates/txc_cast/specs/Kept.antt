@@ -2,7 +2,7 @@
 use Rattle.std.specs.Prelude.{ℕ, ◌≤◌, List, length, map, All}
 use Rattle.boxcar.specs.Table.{Shelves, Where, Shows}
 use Rattle.txc_base.specs.declared.item.Item.{Item}
-use Rattle.txc_base.specs.declared.limits.TheConstants.{MOST_READERS}
+use Rattle.txc_base.specs.declared.limits.TheConstants.{MAX_READERS}
 use Rattle.txc_cast.specs.Broadcast.{Broadcast}
 use Rattle.txc_cast.specs.Reader.{IsWritten}
 use Rattle.txc_cast.specs.Standing.{ReaderState, IsPlaced, readers_standing}
@@ -24,9 +24,9 @@ broadcast shelf tokens standings = record {
   shelf = shelf;
 }
 
--- the tokens show written items of the shelf, and at most `MOST_READERS` readers have positions among them
+-- the tokens show written items of the shelf, and at most `MAX_READERS` readers have positions among them
 pub record IsSoundCast (shelf : Shelves) (tokens : List (Where Item)) (standings : List ReaderState) : Type 0 where
   pub shown : All (λ token. Shows shelf token) tokens
   pub written : All IsWritten (items_shown tokens)
   pub placed : All (IsPlaced (length tokens)) standings
-  pub few : length standings ≤ MOST_READERS
+  pub few : length standings ≤ MAX_READERS

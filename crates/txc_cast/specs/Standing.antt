@@ -5,14 +5,14 @@ use Rattle.txc_cast.specs.Reader.{Reader, IsBack}
 
 -- a position: the number of the next written item, the put-backs before it, and how many takes of those can be undone
 pub record ReaderState : Type 0 where
-  pub place : ℕ
+  pub position : ℕ
   pub backs : List Item
   pub undoable : ℕ
 
 -- the reader at this position: it has its put-backs, and then the items written from its place on
 abbrev pub reader_standing : List Item → ReaderState → Reader
 reader_standing items standing = record {
-  list = standing.backs ++ drop standing.place items;
+  list = standing.backs ++ drop standing.position items;
   undoable = standing.undoable;
 }
 
@@ -22,22 +22,22 @@ readers_standing items standings = map (reader_standing items) standings
 
 -- the position before the written item with this number, with no put-back
 abbrev pub standing_at : ℕ → ReaderState
-standing_at place = record { place = place; backs = []; undoable = 0 }
+standing_at position = record { position = position; backs = []; undoable = 0 }
 
 -- the position one item after this place and these put-backs
 abbrev pub step_from : ℕ → List Item → ℕ → ReaderState
-step_from place [] undoable = record { place = place + 1; backs = []; undoable = undoable }
-step_from place (item ∷ rest) undoable = record { place = place; backs = rest; undoable = undoable + 1 }
+step_from position [] undoable = record { position = position + 1; backs = []; undoable = undoable }
+step_from position (item ∷ rest) undoable = record { position = position; backs = rest; undoable = undoable + 1 }
 
 -- the position one item further: past the latest put-back, or past a written item if there is none
 abbrev pub stepped : ReaderState → ReaderState
-stepped standing = step_from standing.place standing.backs standing.undoable
+stepped standing = step_from standing.position standing.backs standing.undoable
 
 -- the position with no take of a put-back to undo
 abbrev pub at_rest : ReaderState → ReaderState
-at_rest standing = record { place = standing.place; backs = standing.backs; undoable = 0 }
+at_rest standing = record { position = standing.position; backs = standing.backs; undoable = 0 }
 
 -- the place is at most the number of items written, and no put-back is a written item
 pub record IsPlaced (written : ℕ) (standing : ReaderState) : Type 0 where
-  pub within : standing.place ≤ written
+  pub within : standing.position ≤ written
   pub backs : All IsBack standing.backs

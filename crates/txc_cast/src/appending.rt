@@ -10,7 +10,7 @@ use std::sync::Wait;
 use txc_base::Item;
 
 /// A way to append to a broadcast list. Each handle that can wait is one, and a call that takes it can block when it
-/// writes to a broadcast list. Code that must not block, such as the functions that C calls, uses `Alone`.
+/// writes to a broadcast list. Code that must not block, such as the functions that C calls, uses `NonBlocking`.
 pub trait Append {
     /// Writes an item at the end of every reader's list. The item's origin must be `Written`. Returns `NoMemory` if
     /// allocation fails, or if this way appends nothing. Can block if `self` is a handle that can wait.
@@ -30,9 +30,9 @@ impl<R: Wait> Append for R {
 /// A way for code that must not block: it appends nothing, and returns `NoMemory` for each item. It never blocks and
 /// does not allocate.
 #[derive(Clone, Copy)]
-pub struct Alone;
+pub struct NonBlocking;
 
-impl Append for Alone {
+impl Append for NonBlocking {
     fn append_to(&self, _cast: &mut Cast, _item: Item) -> Result<(), CastFault> {
         Err(CastFault::NoMemory)
     }

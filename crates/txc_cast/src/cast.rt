@@ -1,6 +1,6 @@
 // A broadcast list.
 ghost use Rattle.std.specs.Prelude.{◌≡◌, ◌<◌, ◌≤◌, ◌↔◌, length, slice_get, Some, None, IfOk, OnOk, OnErr, IsTrue};
-ghost use Rattle.txc_base.specs.declared.limits.TheConstants.{MOST_READERS};
+ghost use Rattle.txc_base.specs.declared.limits.TheConstants.{MAX_READERS};
 ghost use Rattle.txc_cast.specs.Fault.{refused};
 ghost use Rattle.txc_cast.specs.Reader.{fresh, IsWritten, IsBack};
 ghost use Rattle.txc_cast.specs.Broadcast.{unwritten, reader_at, read_of, with_new_reader, Appends, first_of, taken_at};
@@ -18,7 +18,7 @@ use boxcar::Pushed;
 use std::alloc::{AllocError, Global};
 use std::marker::Model;
 use std::sync::{Arc, Wait};
-use txc_base::{Item, List, MOST_READERS, Origin};
+use txc_base::{Item, List, MAX_READERS, Origin};
 
 /// A broadcast list. A contract sees the items written, the slot of each item, the readers and the shelf. A reader has
 /// the items that it has still to read, and a count of its takes of put-backs that can be undone. Readers are given by
@@ -51,7 +51,7 @@ impl Cast {
         ensures refused { refused result ≡ opening_refusal readers }
         ensures ok { IfOk result (λ made. made.0 ≡ unwritten readers made.1) }
     {
-        if u64::from(readers) > MOST_READERS {
+        if u64::from(readers) > MAX_READERS {
             return Err(CastFault::TooManyReaders);
         }
         let shelf = Shelf::new(alloc)?;
@@ -79,7 +79,7 @@ impl Cast {
     /// Returns the number of readers, at most 64.
     pub fn readers(&self) -> u16
         ensures value { result ≡ length self.now.readers }
-        ensures few { result ≤ MOST_READERS }
+        ensures few { result ≤ MAX_READERS }
     {
         self.cursors.len() as u16
     }
@@ -92,11 +92,11 @@ impl Cast {
         self.tokens.len()
     }
 
-    /// Returns the slot of the written item number `place`, or `None` if there is no such item.
-    pub fn slot(&self, place: usize) -> Option<usize>
-        ensures { result ≡ slice_get self.now.slots place }
+    /// Returns the slot of the written item number `position`, or `None` if there is no such item.
+    pub fn slot(&self, position: usize) -> Option<usize>
+        ensures { result ≡ slice_get self.now.slots position }
     {
-        Some(self.tokens.get(place)?.index())
+        Some(self.tokens.get(position)?.index())
     }
 
     /// Returns the slot of each item written, in order. Returns an error if allocation fails.
@@ -104,8 +104,8 @@ impl Cast {
         ensures { IfOk result (λ slots. slots.items ≡ self.now.slots) }
     {
         let mut slots = Vec::new(self.alloc);
-        for place in 0..self.written() {
-            let Some(slot) = self.slot(place) else {
+        for position in 0..self.written() {
+            let Some(slot) = self.slot(position) else {
                 unreachable!()
             };
             slots.push(slot)?;
@@ -113,14 +113,15 @@ impl Cast {
         Ok(slots)
     }
 
-    /// Returns whether the written item number `place` is at the slot of this sight. If it is, it is the sight's item.
+    /// Returns whether the written item number `position` is at the slot of this sight. If it is, it is the sight's
+    /// item.
     /// The sight must be of the list's own shelf.
-    pub fn agrees(&self, place: usize, sight: &Sight) -> bool
+    pub fn agrees(&self, position: usize, sight: &Sight) -> bool
         requires { IsOf self.now.shelf sight.now }
-        ensures slot { IsTrue result ↔ (slice_get self.now.slots place ≡ Some sight.now.slot) }
-        ensures item { IsTrue result → slice_get self.now.items place ≡ Some sight.now.item }
+        ensures slot { IsTrue result ↔ (slice_get self.now.slots position ≡ Some sight.now.slot) }
+        ensures item { IsTrue result → slice_get self.now.items position ≡ Some sight.now.item }
     {
-        let Some(token) = self.tokens.get(place) else {
+        let Some(token) = self.tokens.get(position) else {
             return false;
         };
         if token.index() != sight.slot {
@@ -130,11 +131,11 @@ impl Cast {
         true
     }
 
-    // Returns the written item number `place`, if there is one.
-    fn item(&self, place: usize) -> Option<Item>
-        ensures { result ≡ slice_get self.now.items place }
+    // Returns the written item number `position`, if there is one.
+    fn item(&self, position: usize) -> Option<Item>
+        ensures { result ≡ slice_get self.now.items position }
     {
-        let token = self.tokens.get(place)?;
+        let token = self.tokens.get(position)?;
         Some(*self.items.value(token))
     }
 
@@ -148,7 +149,7 @@ impl Cast {
         };
         match cursor.back() {
             Some(item) => Ok(Some(item)),
-            None => Ok(self.item(cursor.place())),
+            None => Ok(self.item(cursor.position())),
         }
     }
 
@@ -166,9 +167,9 @@ impl Cast {
         let mut list = Vec::with_capacity(self.alloc, backs.len())?;
         list.extend_from_slice(backs)?;
         list.reverse();
-        list.reserve(written - cursor.place())?;
-        for place in cursor.place()..written {
-            list.push_reserved(*self.items.value(&self.tokens[place]));
+        list.reserve(written - cursor.position())?;
+        for position in cursor.position()..written {
+            list.push_reserved(*self.items.value(&self.tokens[position]));
         }
         Ok(list)
     }
@@ -269,15 +270,19 @@ impl Cast {
     fn next_number(&self) -> Result<u16, CastFault>
         ensures refused { refused result ≡ place_refusal self.now }
         ensures ok { IfOk result (λ number. number ≡ length self.now.readers) }
-        ensures few { OnOk result (length self.now.readers < MOST_READERS) }
-        ensures err { OnErr result (MOST_READERS ≤ length self.now.readers) }
+        ensures few { OnOk result (length self.now.readers < MAX_READERS) }
+        ensures err { OnErr result (MAX_READERS ≤ length self.now.readers) }
     {
         let number = self.readers();
-        if u64::from(number) >= MOST_READERS {
+        if u64::from(number) >= MAX_READERS {
             return Err(CastFault::TooManyReaders);
         }
         Ok(number)
     }
+
+    // Each `undo_` states what the cast becomes (`value`), and that this is the cast from before the call that it
+    // undoes
+    // (`undone`, which follows from `value`).
 
     /// Undoes the last append. There must be a written item, and each reader must have a written item still to read.
     /// The item of the append stays on the shelf.

@@ -9,7 +9,7 @@ use txc_base::Item;
 /// The position of a reader: a place among the items written, and its own put-backs, which it reads first.
 #[derive(Drop)]
 pub(crate) struct Cursor {
-    place: usize,
+    position: usize,
     // The latest put-back is last, and is taken next.
     backs: Vec<Item>,
     // The number of takes of put-backs that can be undone. `backs` has capacity for these.
@@ -23,7 +23,7 @@ impl Model for Cursor {
     ghost Value = { ReaderState };
 
     ghost view = { λ cursor. record {
-      place = cursor.place;
+      position = cursor.position;
       backs = reverse cursor.backs.items;
       undoable = cursor.undoable;
     } };
@@ -33,11 +33,11 @@ impl Model for Cursor {
 
 impl Cursor {
     /// Returns a reader that begins at this place.
-    pub(crate) fn new(alloc: Global, place: usize) -> Cursor
-        ensures { result ≡ standing_at place }
+    pub(crate) fn new(alloc: Global, position: usize) -> Cursor
+        ensures { result ≡ standing_at position }
     {
         Cursor {
-            place,
+            position,
             backs: Vec::new(alloc),
             undoable: 0,
         }
@@ -50,17 +50,17 @@ impl Cursor {
         let mut backs = Vec::with_capacity(alloc, self.backs.len())?;
         backs.extend_from_slice(self.backs.as_slice())?;
         Ok(Cursor {
-            place: self.place,
+            position: self.position,
             backs,
             undoable: 0,
         })
     }
 
     /// Returns the number of the reader's next written item.
-    pub(crate) fn place(&self) -> usize
-        ensures { result ≡ self.now.place }
+    pub(crate) fn position(&self) -> usize
+        ensures { result ≡ self.now.position }
     {
-        self.place
+        self.position
     }
 
     /// Returns the latest put-back, if there is one.
@@ -79,13 +79,13 @@ impl Cursor {
 
     /// Moves past the latest put-back, or past a written item if there is no put-back.
     pub(crate) fn step(&mut self)
-        requires { self.old.place + 1 < 2 ^ 64 }
+        requires { self.old.position + 1 < 2 ^ 64 }
         ensures { self.new ≡ stepped self.old }
     {
         if self.backs.pop().is_some() {
             self.undoable += 1;
         } else {
-            self.place += 1;
+            self.position += 1;
         }
     }
 
@@ -117,10 +117,10 @@ impl Cursor {
 
     /// Undoes the take of a written item.
     pub(crate) fn undo_take_of_written(&mut self)
-        requires { 0 < self.old.place }
-        ensures { self.new ≡ record self.old { place = self.old.place - 1 } }
+        requires { 0 < self.old.position }
+        ensures { self.new ≡ record self.old { position = self.old.position - 1 } }
     {
-        self.place -= 1;
+        self.position -= 1;
     }
 
     /// Makes all takes of put-backs permanent: none can be undone any more.

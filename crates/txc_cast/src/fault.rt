@@ -11,7 +11,7 @@ pub enum CastFault {
     /// There is no reader with this number.
     #[error("there is no such reader")]
     NoReader,
-    /// There would be more than `MOST_READERS` readers.
+    /// There would be more than `MAX_READERS` readers.
     #[error("there are too many readers")]
     TooManyReaders,
     /// Allocation failed.

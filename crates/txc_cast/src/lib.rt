@@ -12,7 +12,7 @@ mod fault;
 mod shelf;
 mod sight;
 
-pub use appending::{Alone, Append};
+pub use appending::{Append, NonBlocking};
 pub use cast::Cast;
 pub use fault::CastFault;
 pub use shelf::Shelf;

@@ -8,8 +8,8 @@ use Rattle.txc_base.specs.declared.entry.Entry.{Entry}
 use Rattle.txc_base.specs.declared.item.Item.{Item}
 use Rattle.txc_base.specs.declared.kind.Kind.{Kind}
 use Rattle.txc_base.specs.declared.tag.Tag.{Tag}
-use Rattle.txc_base.specs.declared.limits.TheConstants.{MOST_READERS}
-use Rattle.txc_base.specs.Fair.{written, written_by}
+use Rattle.txc_base.specs.declared.limits.TheConstants.{MAX_READERS}
+use Rattle.txc_base.specs.InOrder.{written, written_by}
 use Rattle.txc_base.specs.Kinds.{is_broadcast, is_closable}
 use Rattle.txc_base.specs.Log.{takes_write, takes_back, after_act}
 use Rattle.txc_base.specs.Operation.{next_written, next_back, with_reader}
@@ -17,10 +17,10 @@ use Rattle.txc_base_laws.proofs.Bridge.{wrote_logs, took_logs, back_logs, is_giv
 use Rattle.txc_chan.proofs.KeptLemmas.{kept_more, kept_same, kept_settled}
 use Rattle.txc_chan.specs.declared.body.Body.{Body}
 use Rattle.txc_chan.specs.declared.decl.Decl.{Decl}
-use Rattle.txc_chan.specs.Body.{lists_of, HasNoRoom, HasWrittenAll, Keeps, SameRoom, IsOfKind}
+use Rattle.txc_chan.specs.Body.{lists_of, NothingUndoable, HasWrittenAll, Keeps, SameUndoable, IsOfKind}
 use Rattle.txc_chan.specs.Body.{channel_of, is_shelved, undoable_at}
 use Rattle.txc_chan.specs.Reserved.{needs_room, one_if}
-use Rattle.txc_chan.specs.BodyCalls.{list_at, lists_with, ReadsIn, TakesFrom, MoreRoom}
+use Rattle.txc_chan.specs.BodyCalls.{list_at, lists_with, ReadsIn, TakesFrom, MoreUndoable}
 use Rattle.txc_chan.specs.Chan.{IsSoundChan}
 
 abbrev pub entry : Tag → Act → Entry
@@ -53,7 +53,7 @@ still_fits keeps fits = record {
 }
 
 -- nothing needs room
-no_more : (body body' : Body) → SameRoom body body' → (k : ℕ) → undoable_at body' k ≡ undoable_at body k + 0
+no_more : (body body' : Body) → SameUndoable body body' → (k : ℕ) → undoable_at body' k ≡ undoable_at body k + 0
 no_more body body' same k = same k ∙ sym (add-zero (undoable_at body k))
 
 pub writes : (decl : Decl) (body body' : Body) (closed : Bool) (count backs : ℕ) (log log' : List Entry) (pending : ℕ)
@@ -62,7 +62,7 @@ pub writes : (decl : Decl) (body body' : Body) (closed : Bool) (count backs : �
     → closed ≡ false → takes_write (channel_of decl.kind body closed count backs) ≡ true
     → lists_of body' ≡ map (λ list. list ++ next_written (channel_of decl.kind body closed count backs) tag.seat b ∷ [])
     (lists_of body)
-    → Keeps body body' → SameRoom body body'
+    → Keeps body body' → SameUndoable body body'
     → HasWrittenAll body' (written log ++ next_written (channel_of decl.kind body closed count backs) tag.seat b ∷ [])
     → log' ≡ log ++ entry tag (Wrote (next_written (channel_of decl.kind body closed count backs) tag.seat b)) ∷ []
     → IsSoundChan decl body' closed (count + 1) backs log' (pending + 1)
@@ -78,7 +78,7 @@ writes decl body body' closed count backs log log' pending tag b kept unshut roo
 pub takes : (decl : Decl) (body body' : Body) (closed : Bool) (count backs : ℕ) (log log' : List Entry) (pending : ℕ)
     (tag : Tag) (reader : ℕ) (item : Item)
     → IsSoundChan decl body closed count backs log pending
-    → TakesFrom (Some item) body reader body' → Keeps body body' → MoreRoom (Some item) body reader body'
+    → TakesFrom (Some item) body reader body' → Keeps body body' → MoreUndoable (Some item) body reader body'
     → HasWrittenAll body' (written log)
     → log' ≡ log ++ entry tag (Took reader item) ∷ []
     → IsSoundChan decl body' closed count backs log' (pending + 1)
@@ -97,7 +97,7 @@ pub puts : (decl : Decl) (body body' : Body) (closed : Bool) (count backs : ℕ)
     → closed ≡ false → takes_back (channel_of decl.kind body closed count backs) ≡ true
     → lists_of body' ≡ lists_with body reader
     (next_back (channel_of decl.kind body closed count backs) tag.seat b ∷ list_at body reader)
-    → Keeps body body' → SameRoom body body' → HasWrittenAll body' (written log)
+    → Keeps body body' → SameUndoable body body' → HasWrittenAll body' (written log)
     → log' ≡ log ++ entry tag (PutBack reader (next_back (channel_of decl.kind body closed count backs) tag.seat b))
     ∷ []
     → IsSoundChan decl body' closed count (backs + 1) log' (pending + 1)
@@ -133,7 +133,7 @@ adds : (decl : Decl) (body body' : Body) (closed : Bool) (count backs : ℕ) (lo
     → after_act (channel_of decl.kind body closed count backs) tag.seat act
     ≡ Some (with_reader (channel_of decl.kind body closed count backs) list)
     → lists_of body' ≡ lists_of body ++ list ∷ []
-    → Keeps body body' → SameRoom body body' → HasWrittenAll body' (written log)
+    → Keeps body body' → SameUndoable body body' → HasWrittenAll body' (written log)
     → written_by act ≡ [] → ((k : ℕ) → needs_room (is_shelved body) k act ≡ false)
     → log' ≡ log ++ entry tag act ∷ []
     → IsSoundChan decl body' closed count backs log' (pending + 1)
@@ -149,9 +149,9 @@ adds decl body body' closed count backs log log' pending tag act list kept lawfu
 pub begins : (decl : Decl) (body body' : Body) (closed : Bool) (count backs : ℕ) (log log' : List Entry) (pending : ℕ)
     (tag : Tag) (number : ℕ)
     → IsSoundChan decl body closed count backs log pending
-    → is_broadcast decl.kind ≡ true → number ≡ length (lists_of body) → length (lists_of body) < MOST_READERS
+    → is_broadcast decl.kind ≡ true → number ≡ length (lists_of body) → length (lists_of body) < MAX_READERS
     → lists_of body' ≡ lists_of body ++ [] ∷ []
-    → Keeps body body' → SameRoom body body' → HasWrittenAll body' (written log)
+    → Keeps body body' → SameUndoable body body' → HasWrittenAll body' (written log)
     → log' ≡ log ++ entry tag (Begun number) ∷ []
     → IsSoundChan decl body' closed count backs log' (pending + 1)
 begins decl body body' closed count backs log log' pending tag number kept broadcast next few lists keeps same stocked
@@ -165,9 +165,9 @@ pub clones : (decl : Decl) (body body' : Body) (closed : Bool) (count backs : �
     (tag : Tag) (source number : ℕ)
     → IsSoundChan decl body closed count backs log pending
     → is_broadcast decl.kind ≡ true → slice_get (lists_of body) source ≡ Some (list_at body source)
-    → number ≡ length (lists_of body) → length (lists_of body) < MOST_READERS
+    → number ≡ length (lists_of body) → length (lists_of body) < MAX_READERS
     → lists_of body' ≡ lists_of body ++ list_at body source ∷ []
-    → Keeps body body' → SameRoom body body' → HasWrittenAll body' (written log)
+    → Keeps body body' → SameUndoable body body' → HasWrittenAll body' (written log)
     → log' ≡ log ++ entry tag (Cloned source number) ∷ []
     → IsSoundChan decl body' closed count backs log' (pending + 1)
 clones decl body body' closed count backs log log' pending tag source number kept broadcast found next few lists keeps
@@ -184,7 +184,7 @@ pub takes_settled : (decl : Decl) (body body' : Body) (closed : Bool) (count bac
     (pending : ℕ) (tag : Tag) (reader : ℕ) (item : Item)
     → IsSoundChan decl body closed count backs log pending
     → ReadsIn (Some item) (lists_of body) reader (lists_of body') → Keeps body body'
-    → HasWrittenAll body' (written log) → HasNoRoom body'
+    → HasWrittenAll body' (written log) → NothingUndoable body'
     → log' ≡ log ++ entry tag (Took reader item) ∷ []
     → IsSoundChan decl body' closed count backs log' 0
 takes_settled decl body body' closed count backs log log' pending tag reader item kept taken keeps stocked room is =
@@ -200,7 +200,7 @@ takes_settled decl body body' closed count backs log log' pending tag reader ite
 pub nothing_settled : (decl : Decl) (body body' : Body) (closed : Bool) (count backs : ℕ) (log : List Entry)
     (pending : ℕ)
     → IsSoundChan decl body closed count backs log pending
-    → lists_of body' ≡ lists_of body → Keeps body body' → HasWrittenAll body' (written log) → HasNoRoom body'
+    → lists_of body' ≡ lists_of body → Keeps body body' → HasWrittenAll body' (written log) → NothingUndoable body'
     → IsSoundChan decl body' closed count backs log 0
 nothing_settled decl body body' closed count backs log pending kept same keeps stocked room =
     kept_same decl body body' closed count backs log pending kept

@@ -109,10 +109,10 @@ room-opening zero reader = refl
 room-opening (suc count) zero = refl
 room-opening (suc count) (suc reader) = room-opening count reader
 
-pub fed_room-opening : (count reader : ℕ) → (slice_index_or (replicate count empty) reader empty).undoable ≡ 0
-fed_room-opening zero reader = refl
-fed_room-opening (suc count) zero = refl
-fed_room-opening (suc count) (suc reader) = fed_room-opening count reader
+pub appended_room-opening : (count reader : ℕ) → (slice_index_or (replicate count empty) reader empty).undoable ≡ 0
+appended_room-opening zero reader = refl
+appended_room-opening (suc count) zero = refl
+appended_room-opening (suc count) (suc reader) = appended_room-opening count reader
 
 -- .. and none once all are settled
 pub room-settle : (readers : List Reader) (reader : ℕ)
@@ -121,20 +121,20 @@ room-settle [] reader = refl
 room-settle (r ∷ rs) zero = refl
 room-settle (r ∷ rs) (suc reader) = room-settle rs reader
 
-pub fed_room-settle : (feed : List Queue) (reader : ℕ)
-    → (slice_index_or (map with_nothing_undoable feed) reader empty).undoable ≡ 0
-fed_room-settle [] reader = refl
-fed_room-settle (q ∷ qs) zero = refl
-fed_room-settle (q ∷ qs) (suc reader) = fed_room-settle qs reader
+pub appended_room-settle : (fanout : List Queue) (reader : ℕ)
+    → (slice_index_or (map with_nothing_undoable fanout) reader empty).undoable ≡ 0
+appended_room-settle [] reader = refl
+appended_room-settle (q ∷ qs) zero = refl
+appended_room-settle (q ∷ qs) (suc reader) = appended_room-settle qs reader
 
-pub ruleset opening_rules = (read_of-opening, unread_of-opening, room-opening, fed_room-opening)
+pub ruleset opening_rules = (read_of-opening, unread_of-opening, room-opening, appended_room-opening)
 
 pub ruleset cast_rules = (
   read_of-append,
   read_of-unappend,
   read_of-settle,
   room-settle,
-  fed_room-settle,
+  appended_room-settle,
   read_of-set,
   read_of-more,
   read_at-is,

@@ -9,7 +9,7 @@ use Rattle.txc_base.specs.declared.act.Act.TheVariants.{Took}
 use Rattle.txc_base.specs.declared.item.Item.{Item}
 use Rattle.txc_base.specs.declared.origin.Origin.{Origin}
 use Rattle.txc_base.specs.declared.origin.Origin.TheVariants.{Written, Back}
-use Rattle.txc_base.specs.Fair.{is_written}
+use Rattle.txc_base.specs.InOrder.{is_written}
 use Rattle.txc_cast.specs.Broadcast.{Broadcast, CanUnappend, CanUntakeAt, CanUngiveAt, reader_at, read_of}
 use Rattle.txc_cast.specs.Reader.{Reader, fresh, is_back, is_back_from, IsWritten, IsBack, HasWritten, BeginsWithBack}
 use Rattle.txc_cast.specs.Reader.{CanUntakeFrom}
@@ -63,9 +63,9 @@ unappends : (cast : Broadcast) (lists : List (List Item)) (before : List Item) (
 unappends cast lists before item e items new =
     (omega (arith, ap length items ∙ length-append before (item ∷ [])), all_written cast.readers lists item e new)
 
-all_filled : (feed : List Queue) (lists : List (List Item)) (item : Item)
-    → unread_of feed ≡ map (λ (l : List Item). l ++ item ∷ []) lists
-    → All (λ (q : Queue). 0 < length q.items) feed
+all_filled : (fanout : List Queue) (lists : List (List Item)) (item : Item)
+    → unread_of fanout ≡ map (λ (l : List Item). l ++ item ∷ []) lists
+    → All (λ (q : Queue). 0 < length q.items) fanout
 all_filled [] lists item e = λ k d h. absurd (omega arith)
 all_filled (q ∷ queues) [] item e = cc
 all_filled (q ∷ queues) (list ∷ lists) item e =
@@ -80,7 +80,7 @@ pub can_unwrite : (body : Body) (lists : List (List Item)) (before : List Item) 
 can_unwrite (PlainQueue queue) lists before item e stocked new = some_items queue.items lists item e
 can_unwrite (Bounded queue) lists before item e stocked new = some_items queue.queue.items lists item e
 can_unwrite (Shelved cast) lists before item e stocked new = unappends cast lists before item e stocked new
-can_unwrite (Fanned feed) lists before item e stocked new = all_filled feed lists item e
+can_unwrite (Fanned fanout) lists before item e stocked new = all_filled fanout lists item e
 
 -- ---- a take, and a put-back
 
@@ -158,9 +158,10 @@ untakes_queue items lists k count item rest h e room =
     (first, room_first k count item first room)
 
 -- a queue that is there, of whose reader the list was changed
-there_fed : (feed : List Queue) (lists : List (List Item)) (k : ℕ) (old new : List Item) → slice_get lists k ≡ Some old
-    → unread_of feed ≡ set lists k new
-    → (k < length feed) × ((queue_at feed k).items ≡ new)
+there_fed : (fanout : List Queue) (lists : List (List Item)) (k : ℕ) (old new : List Item) → slice_get lists k
+    ≡ Some old
+    → unread_of fanout ≡ set lists k new
+    → (k < length fanout) × ((queue_at fanout k).items ≡ new)
 there_fed [] [] k old new h e = cc
 there_fed [] (list ∷ lists) zero old new h e = cc
 there_fed [] (list ∷ lists) (suc k) old new h e = cc
@@ -171,14 +172,14 @@ there_fed (q ∷ queues) (list ∷ lists) (suc k) old new h e =
     let found = there_fed queues lists k old new h rest in
     (omega (arith, found.0), found.1)
 
-untakes_fed : (feed : List Queue) (lists : List (List Item)) (k : ℕ) (item : Item) (rest : List Item)
+untakes_fed : (fanout : List Queue) (lists : List (List Item)) (k : ℕ) (item : Item) (rest : List Item)
     → slice_get lists k ≡ Some (item ∷ rest)
-    → unread_of feed ≡ set lists k rest → one_if (needs_room false k (Took k item)) ≤ (queue_at feed k).undoable
-    → (k < length feed) × (0 < (queue_at feed k).undoable)
-untakes_fed feed lists k item rest h e room =
+    → unread_of fanout ≡ set lists k rest → one_if (needs_room false k (Took k item)) ≤ (queue_at fanout k).undoable
+    → (k < length fanout) × (0 < (queue_at fanout k).undoable)
+untakes_fed fanout lists k item rest h e room =
     let same : (k == k) ≡ true = eq-eqb k k refl in
     let one : one_if (needs_room false k (Took k item)) ≡ 1 = ap (λ b. one_if (b && (true || is_back item))) same in
-    ((there_fed feed lists k (item ∷ rest) rest h e).0, omega (arith, room, one))
+    ((there_fed fanout lists k (item ∷ rest) rest h e).0, omega (arith, room, one))
 
 -- the order of a broadcast list's items, and the room for the undo
 abbrev pub Order : Body → List Item → Item → List Item → Type 0
@@ -194,8 +195,8 @@ can_untake (Bounded queue) lists items k item rest h e stocked order room =
     untakes_queue queue.queue.items lists k queue.queue.undoable item rest h e (room 0)
 can_untake (Shelved cast) lists items k item rest h e stocked order room =
     untakes_cast cast lists k item rest h e (λ new. let f = order new in (f.0, stocked ∙ f.1)) (room k)
-can_untake (Fanned feed) lists items k item rest h e stocked order room =
-    untakes_fed feed lists k item rest h e (room k)
+can_untake (Fanned fanout) lists items k item rest h e stocked order room =
+    untakes_fed fanout lists k item rest h e (room k)
 
 unputs_queue : (items : List Item) (lists : List (List Item)) (k : ℕ) (item : Item) (list : List Item)
     → slice_get lists k ≡ Some list
@@ -221,6 +222,6 @@ pub can_unput : (body : Body) (lists : List (List Item)) (k : ℕ) (item : Item)
 can_unput (PlainQueue queue) lists k item list h e back = unputs_queue queue.items lists k item list h e
 can_unput (Bounded queue) lists k item list h e back = unputs_queue queue.queue.items lists k item list h e
 can_unput (Shelved cast) lists k item list h e back = unputs_cast cast lists k item list h e back
-can_unput (Fanned feed) lists k item list h e back =
-    let found = there_fed feed lists k list (item ∷ list) h e in
+can_unput (Fanned fanout) lists k item list h e back =
+    let found = there_fed fanout lists k list (item ∷ list) h e in
     (found.0, omega (arith, ap length found.1))

@@ -9,7 +9,7 @@ use Rattle.txc_base.specs.declared.entry.Entry.{Entry}
 use Rattle.txc_base.specs.declared.item.Item.{Item}
 use Rattle.txc_base.specs.declared.tag.Tag.{Tag}
 use Rattle.txc_base.specs.Channel.{opening}
-use Rattle.txc_base.specs.Fair.{written}
+use Rattle.txc_base.specs.InOrder.{written}
 use Rattle.txc_base.specs.Log.{entries, state}
 use Rattle.txc_chan.proofs.ActLemmas.{entry, channel_is}
 use Rattle.txc_base_laws.proofs.Bridge.{flush_logs}
@@ -57,20 +57,20 @@ others : (body : Body) (reader : ℕ) → is_cast body ≡ false → undoable_at
 others (Queue queue) reader e = refl
 others (Bounded queue) reader e = refl
 others (Shelved cast) reader e = cc
-others (Fanned feed) reader e = cc
+others (Fanned fanout) reader e = cc
 
 -- .. and no shelf
 unshelved : (body : Body) → is_cast body ≡ false → is_shelved body ≡ false
 unshelved (Queue queue) e = refl
 unshelved (Bounded queue) e = refl
 unshelved (Shelved cast) e = cc
-unshelved (Fanned feed) e = cc
+unshelved (Fanned fanout) e = cc
 
 pub queue_stock : (body : Body) (items : List Item) → is_cast body ≡ false → HasWrittenAll body items
 queue_stock (Queue queue) items e = tt
 queue_stock (Bounded queue) items e = tt
 queue_stock (Shelved cast) items e = cc
-queue_stock (Fanned feed) items e = cc
+queue_stock (Fanned fanout) items e = cc
 
 room_all : (body body' : Body) (tag : Tag) (items : List Item) (last : List Entry)
     → undoable_at body' 0 ≡ undoable_at body 0 + length items

@@ -4,7 +4,7 @@ use Rattle.std.proofs.Common.{◌∷◌, ◌++◌, length, length-append, drop, 
 use Rattle.std.proofs.lemmas.List.{drop-append-le, drop_all}
 use Rattle.txc_base.specs.declared.entry.Entry.{Entry}
 use Rattle.txc_base.specs.Channel.{opening}
-use Rattle.txc_base.specs.Fair.{written, written_by}
+use Rattle.txc_base.specs.InOrder.{written, written_by}
 use Rattle.txc_base.specs.Log.{IsTrueTo, after, state}
 use Rattle.txc_base_laws.proofs.CountsLaw.{sorts}
 use Rattle.txc_base_laws.proofs.KeptLaw.{numbered}
@@ -13,7 +13,7 @@ use Rattle.txc_base_laws.proofs.UndoLaw.{stays_true_back}
 use Rattle.txc_base_laws.proofs.Words.{written_push, count_push}
 use Rattle.txc_chan.specs.declared.body.Body.{Body}
 use Rattle.txc_chan.specs.declared.decl.Decl.{Decl}
-use Rattle.txc_chan.specs.Body.{HasNoRoom, HasWrittenAll, HasRoomFor, channel_of, is_shelved}
+use Rattle.txc_chan.specs.Body.{NothingUndoable, HasWrittenAll, HasRoomFor, channel_of, is_shelved}
 use Rattle.txc_chan.specs.Body.{last_entries, needed, undoable_at}
 use Rattle.txc_chan.specs.Reserved.{needs_room, one_if}
 use Rattle.txc_chan.specs.Chan.{IsSoundChan}
@@ -122,14 +122,14 @@ none_needed shelved k log = ap (needed shelved k) (drop_all (length log - 0) log
 
 -- where nothing can be undone, no room is kept
 pub no_room : (decl : Decl) (body : Body) (closed : Bool) (count backs : ℕ) (log : List Entry) (pending : ℕ)
-    → pending ≡ 0 → IsSoundChan decl body closed count backs log pending → HasNoRoom body
+    → pending ≡ 0 → IsSoundChan decl body closed count backs log pending → NothingUndoable body
 no_room decl body closed count backs log pending none kept k =
     sym (subst (λ n. needed (is_shelved body) k (last_entries n log) ≡ undoable_at body k) none (kept.ready k))
     ∙ none_needed (is_shelved body) k log
 
 -- nothing of it can be undone any more
 pub settled_so : (decl : Decl) (body : Body) (closed : Bool) (count backs : ℕ) (log : List Entry) (pending : ℕ)
-    → IsSoundChan decl body closed count backs log pending → HasNoRoom body
+    → IsSoundChan decl body closed count backs log pending → NothingUndoable body
     → IsSoundChan decl body closed count backs log 0
 settled_so decl body closed count backs log pending kept room = record {
   lawful = kept.lawful;
@@ -145,7 +145,7 @@ pub kept_settled : (decl : Decl) (body body' : Body) (closed closed' : Bool) (co
     → after (channel_of decl.kind body closed count backs) entry
     ≡ Some (channel_of decl.kind body' closed' count' backs')
     → HasWrittenAll body' (written log ++ written_by entry.act)
-    → HasNoRoom body'
+    → NothingUndoable body'
     → log' ≡ log ++ entry ∷ []
     → IsSoundChan decl body' closed' count' backs' log' 0
 kept_settled decl body body' closed closed' count count' backs backs' log log' pending entry kept lawful stocked room is
@@ -162,7 +162,7 @@ kept_settled decl body body' closed closed' count count' backs backs' log log' p
 pub kept_same : (decl : Decl) (body body' : Body) (closed : Bool) (count backs : ℕ) (log : List Entry) (pending : ℕ)
     → IsSoundChan decl body closed count backs log pending
     → channel_of decl.kind body' closed count backs ≡ channel_of decl.kind body closed count backs
-    → HasWrittenAll body' (written log) → HasNoRoom body'
+    → HasWrittenAll body' (written log) → NothingUndoable body'
     → IsSoundChan decl body' closed count backs log 0
 kept_same decl body body' closed count backs log pending kept same stocked room = record {
   lawful = subst (IsTrueTo decl.kind decl.bound decl.readers log) (sym same) kept.lawful;

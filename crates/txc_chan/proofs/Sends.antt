@@ -11,7 +11,7 @@ use Rattle.txc_base.specs.contracts.item.Item as item
 use Rattle.txc_queue.specs.contracts.bound_queue.BoundQueue as bound_queue
 use Rattle.txc_queue.specs.contracts.pair_queue.PairQueue as pair_queue
 use Rattle.txc_cast.proofs.Sends.{cast_sends}
-use Rattle.txc_queue_fanout.specs.contracts.fanout.Fanout as feed
+use Rattle.txc_queue_fanout.specs.contracts.fanout.Fanout as fanout
 use Rattle.txc_chan.specs.contracts.body.Body as body
 use Rattle.txc_chan.specs.contracts.chan.Chan as chan
 use Rattle.txc_chan.specs.contracts.full_log.FullLog as kept
@@ -33,11 +33,11 @@ pair_queue_sends = search (item_sends, crosses, sendable) depth 20
 bound_queue_sends : IsSend bound_queue.the_row
 bound_queue_sends = search (pair_queue_sends, sendable) depth 20
 
-feed_sends : IsSend feed.the_row
-feed_sends = search (pair_queue_sends, crosses, sendable) depth 20
+fanout_sends : IsSend fanout.the_row
+fanout_sends = search (pair_queue_sends, crosses, sendable) depth 20
 
 body_sends : IsSend body.the_field.row
-body_sends = search (cast_sends, feed_sends, pair_queue_sends, bound_queue_sends, sendable) depth 20
+body_sends = search (cast_sends, fanout_sends, pair_queue_sends, bound_queue_sends, sendable) depth 20
 
 pub chan_sends : (K : RattleType) (log : keep.Ghosts K.Denot) → IsSend K → IsSend (chan.the_row K log)
 chan_sends K log sends =

@@ -12,7 +12,7 @@ use Rattle.txc_chan.proofs.BodyLemmas.{read, read_at, read_of-set, read_at-is}
 use Rattle.txc_base_laws.proofs.Lists.{set_there, at_set_same}
 use Rattle.txc_base.specs.declared.act.Act.TheVariants.{Took}
 use Rattle.txc_chan.specs.declared.body.Body.TheVariants.{Shelved}
-use Rattle.txc_chan.specs.BodyCalls.{TakesFrom, MoreRoom}
+use Rattle.txc_chan.specs.BodyCalls.{TakesFrom, MoreUndoable}
 use Rattle.txc_chan.specs.Reserved.{needs_room, one_if}
 
 -- what a take gave, of a broadcast list alone
@@ -135,12 +135,12 @@ room_found old k t (Some reader) h is = let e : t ≡ slice_get reader.list 0 = 
     room_what old k t reader reader.list h refl e
 
 room_in : (old new : Broadcast) (k : ℕ) (t : Option Item) → MakesRoom t old k new
-    → MoreRoom t (Shelved old) k (Shelved new)
+    → MoreUndoable t (Shelved old) k (Shelved new)
 room_in old new k None h = tt
 room_in old new k (Some item) h = h
 
 pub makes_room : (old new : Broadcast) (k : ℕ) (t : Option Item) → Ok t ≡ first_of old k → new ≡ taken_at old k
-    → MoreRoom t (Shelved old) k (Shelved new)
+    → MoreUndoable t (Shelved old) k (Shelved new)
 makes_room old new k t is e =
     room_in old new k t (subst (MakesRoom t old k) (sym e) (room_found old k t (slice_get old.readers k) refl is))
 

@@ -12,7 +12,7 @@ use Rattle.txc_base.specs.declared.entry.Entry.{Entry}
 use Rattle.txc_base.specs.declared.item.Item.{Item}
 use Rattle.txc_base.specs.declared.tag.Tag.{Tag}
 use Rattle.txc_base.specs.Channel.{Channel}
-use Rattle.txc_base.specs.Fair.{written, written_by}
+use Rattle.txc_base.specs.InOrder.{written, written_by}
 use Rattle.txc_base.specs.Kinds.{is_broadcast}
 use Rattle.txc_base.specs.Log.{IsTrueTo}
 use Rattle.txc_base.specs.Operation.{with_left, with_reader}
@@ -34,29 +34,29 @@ use Rattle.txc_base_laws.proofs.Words.{written_push}
 use Rattle.txc_chan.specs.declared.body.Body.{Body}
 use Rattle.txc_chan.specs.declared.body.Body.TheVariants as body_kind
 use Rattle.txc_chan.specs.declared.decl.Decl.{Decl}
-use Rattle.txc_chan.specs.Body.{lists_of, HasWrittenAll, Keeps, SameRoom, channel_of, is_shelved, last_entries}
+use Rattle.txc_chan.specs.Body.{lists_of, HasWrittenAll, Keeps, SameUndoable, channel_of, is_shelved, last_entries}
 use Rattle.txc_chan.specs.Body.{needed, undoable_at}
 use Rattle.txc_chan.specs.Reserved.{needs_room, one_if}
-use Rattle.txc_chan.specs.BodyCalls.{CanUndoWrite, CanUndoTake, CanUndoPutBack, LessRoom, list_at, lists_with}
+use Rattle.txc_chan.specs.BodyCalls.{CanUndoWrite, CanUndoTake, CanUndoPutBack, LessUndoable, list_at, lists_with}
 use Rattle.txc_chan.specs.Chan.{IsSoundChan}
 use Rattle.txc_base_laws.specs.Undone.{undone, front_of}
 
 -- a reader that isn't there took nothing
-abbrev Past : Bool → List Entry → Channel → Type 0
-Past shelved log c = (k : ℕ) → length c.lists ≤ k → needed shelved k log ≡ 0
+abbrev Node : Bool → List Entry → Channel → Type 0
+Node shelved log c = (k : ℕ) → length c.lists ≤ k → needed shelved k log ≡ 0
 
 not_the_reader : (k taker : ℕ) (b : Bool) → taker < k → one_if (taker == k && b) ≡ 0
 not_the_reader k taker b h =
     let test : (taker == k) ≡ false = grind (arith, nat_tests) in
     ap (λ t. one_if (t && b)) test
 
-past_step : (shelved : Bool) (log : List Entry) (c : Channel) (entry : Entry) (n : ℕ) (k : ℕ) → Past shelved log c
+past_step : (shelved : Bool) (log : List Entry) (c : Channel) (entry : Entry) (n : ℕ) (k : ℕ) → Node shelved log c
     → length c.lists ≤ k → one_if (needs_room shelved k entry.act) ≡ n → n ≡ 0
     → needed shelved k (log ++ entry ∷ []) ≡ 0
 past_step shelved log c entry n k past h one none = omega (arith, needed_push shelved k log entry, past k h, one, none)
 
-past_act : (shelved : Bool) (log : List Entry) (c : Channel) (tag : Tag) (act : Act) (c' : Channel) → Past shelved log c
-    → Leads c tag.seat act c' → Past shelved (log ++ record { tag = tag; act = act } ∷ []) c'
+past_act : (shelved : Bool) (log : List Entry) (c : Channel) (tag : Tag) (act : Act) (c' : Channel) → Node shelved log c
+    → Leads c tag.seat act c' → Node shelved (log ++ record { tag = tag; act = act } ∷ []) c'
 past_act shelved log c tag (Wrote item) c' past led k h =
     let n : length c'.lists ≡ length c.lists = ap (λ (x : Channel). length x.lists) led.1.1.1
     ∙ length-map c.lists (λ (l : List Item). l ++ item ∷ []) in
@@ -84,9 +84,9 @@ past_act shelved log c tag (Cloned source reader) c' past led k h =
     past_step shelved log c (record { tag = tag; act = Cloned source reader }) 0 k past (omega arith) refl refl
 
 none_past : (shelved : Bool) (decl : Decl) (log : List Entry) (c : Channel)
-    → IsTrueTo decl.kind decl.bound decl.readers log c → Past shelved log c
+    → IsTrueTo decl.kind decl.bound decl.readers log c → Node shelved log c
 none_past shelved decl log c h =
-    always (Past shelved) (λ log c entry c' past led. past_act shelved log c entry.tag entry.act c' past led) decl.kind
+    always (Node shelved) (λ log c entry c' past led. past_act shelved log c entry.tag entry.act c' past led) decl.kind
     decl.bound decl.readers log c (λ k h. refl) h
 
 -- .. nor do its last entries say so
@@ -104,9 +104,9 @@ no_room (body_kind.Bounded queue) (suc k) past = refl
 no_room (body_kind.Shelved cast) k past =
     let n : length (read_of cast) ≡ length cast.readers = length-map cast.readers (λ (r : Reader). r.list) in
     ap (λ (r : Reader). r.undoable) (get_or_past cast.readers k fresh (omega arith))
-no_room (body_kind.Fanned feed) k past =
-    let n : length (unread_of feed) ≡ length feed = length-map feed (λ (q : Queue). q.items) in
-    ap (λ (q : Queue). q.undoable) (get_or_past feed k empty (omega arith))
+no_room (body_kind.Fanned fanout) k past =
+    let n : length (unread_of fanout) ≡ length fanout = length-map fanout (λ (q : Queue). q.items) in
+    ap (λ (q : Queue). q.undoable) (get_or_past fanout k empty (omega arith))
 
 -- what is left of the readers has the room that it had
 readers_ready : (decl : Decl) (log : List Entry) (c : Channel) (last : List Entry) (n : ℕ) (body body' : Body) (k : ℕ)
@@ -199,7 +199,7 @@ module _ (decl : Decl) (body : Body) (closed : Bool) (count backs : ℕ) (log lo
       (subst (λ a. HasWrittenAll body (written log' ++ written_by a)) is stock) (ap is_back l.1.1.0)
 
   pub back_write : (item : Item) (body' : Body) → act ≡ Wrote item → lists_of body' ≡ map front_of (lists_of body)
-      → Keeps body body' → SameRoom body body'
+      → Keeps body body' → SameUndoable body body'
       → ((items : List Item) → HasWrittenAll body items → HasWrittenAll body' (front_of items))
       → IsSoundChan decl body' closed (count - 1) backs log' pending
   back_write item body' is lists keeps same items =
@@ -239,7 +239,7 @@ module _ (decl : Decl) (body : Body) (closed : Bool) (count backs : ℕ) (log lo
 
   pub back_take : (reader : ℕ) (item : Item) (body' : Body) → act ≡ Took reader item
       → lists_of body' ≡ lists_with body reader (item ∷ list_at body reader)
-      → Keeps body body' → LessRoom item body reader body'
+      → Keeps body body' → LessUndoable item body reader body'
       → ((items : List Item) → HasWrittenAll body items → HasWrittenAll body' items)
       → IsSoundChan decl body' closed count backs log' pending
   back_take reader item body' is lists keeps less items =
@@ -261,7 +261,7 @@ module _ (decl : Decl) (body : Body) (closed : Bool) (count backs : ℕ) (log lo
 
   pub back_put : (reader : ℕ) (item : Item) (body' : Body) → act ≡ PutBack reader item
       → lists_of body' ≡ lists_with body reader (drop 1 (list_at body reader))
-      → Keeps body body' → SameRoom body body'
+      → Keeps body body' → SameUndoable body body'
       → ((items : List Item) → HasWrittenAll body items → HasWrittenAll body' items)
       → IsSoundChan decl body' closed count (backs - 1) log' pending
   back_put reader item body' is lists keeps same items =

@@ -19,35 +19,35 @@ abbrev pub is_cast : Body → Bool
 is_cast (Queue queue) = false
 is_cast (Bounded queue) = false
 is_cast (Shelved cast) = true
-is_cast (Fanned feed) = true
+is_cast (Fanned fanout) = true
 
 -- a test: they have a bound
 abbrev pub is_limited : Body → Bool
 is_limited (Queue queue) = false
 is_limited (Bounded queue) = true
 is_limited (Shelved cast) = false
-is_limited (Fanned feed) = false
+is_limited (Fanned fanout) = false
 
 -- their bound; 0 if they have none
 abbrev pub bound_of : Body → ℕ
 bound_of (Queue queue) = 0
 bound_of (Bounded queue) = queue.bound
 bound_of (Shelved cast) = 0
-bound_of (Fanned feed) = 0
+bound_of (Fanned fanout) = 0
 
 -- one list for a queue, and one for each reader of a broadcast list
 abbrev pub lists_of : Body → List (List Item)
 lists_of (Queue queue) = queue.items ∷ []
 lists_of (Bounded queue) = queue.queue.items ∷ []
 lists_of (Shelved cast) = read_of cast
-lists_of (Fanned feed) = unread_of feed
+lists_of (Fanned fanout) = unread_of fanout
 
 -- the slots of these written items: none for a queue, and each 0 for a broadcast list without a shelf
 abbrev pub slots_of : Body → List Item → List ℕ
 slots_of (Queue queue) items = []
 slots_of (Bounded queue) items = []
 slots_of (Shelved cast) items = cast.slots
-slots_of (Fanned feed) items = map (λ item. 0) items
+slots_of (Fanned fanout) items = map (λ item. 0) items
 
 -- how many slots these written items have; none for a queue
 abbrev pub slots_for : Kind → List Item → ℕ
@@ -58,14 +58,14 @@ abbrev pub shelf_of : Body → Option Shelves
 shelf_of (Queue queue) = None
 shelf_of (Bounded queue) = None
 shelf_of (Shelved cast) = Some cast.shelf
-shelf_of (Fanned feed) = None
+shelf_of (Fanned fanout) = None
 
 -- a shelf, if there is one, has these items
 abbrev pub HasWrittenAll : Body → List Item → Type 0
 HasWrittenAll (Queue queue) items = Unit {0}
 HasWrittenAll (Bounded queue) items = Unit {0}
 HasWrittenAll (Shelved cast) items = cast.items ≡ items
-HasWrittenAll (Fanned feed) items = Unit {0}
+HasWrittenAll (Fanned fanout) items = Unit {0}
 
 -- a count of the first and only reader; 0 for every other number
 abbrev pub at_first : ℕ → ℕ → ℕ
@@ -77,7 +77,7 @@ abbrev pub undoable_at : Body → ℕ → ℕ
 undoable_at (Queue queue) reader = at_first queue.undoable reader
 undoable_at (Bounded queue) reader = at_first queue.queue.undoable reader
 undoable_at (Shelved cast) reader = (reader_at cast reader).undoable
-undoable_at (Fanned feed) reader = (queue_at feed reader).undoable
+undoable_at (Fanned fanout) reader = (queue_at fanout reader).undoable
 
 -- whether the items are on a shelf
 abbrev pub is_shelved : Body → Bool
@@ -92,13 +92,13 @@ abbrev pub HasRoomFor : Body → List Entry → Type 0
 HasRoomFor body log = (reader : ℕ) → needed (is_shelved body) reader log ≡ undoable_at body reader
 
 -- no take can be undone, and no room is reserved for it
-abbrev pub HasNoRoom : Body → Type 0
-HasNoRoom body = (reader : ℕ) → undoable_at body reader ≡ 0
+abbrev pub NothingUndoable : Body → Type 0
+NothingUndoable body = (reader : ℕ) → undoable_at body reader ≡ 0
 
 -- a new body: nothing is written, and there is no room to undo
 pub record IsFresh (body : Body) : Type 0 where
   pub items : HasWrittenAll body []
-  pub room : HasNoRoom body
+  pub room : NothingUndoable body
 
 -- the last entries of a log
 abbrev pub last_entries : ℕ → List Entry → List Entry
@@ -123,8 +123,8 @@ pub record Keeps (old new : Body) : Type 0 where
   pub shelf : shelf_of new ≡ shelf_of old
 
 -- as many takes can be undone as before
-abbrev pub SameRoom : Body → Body → Type 0
-SameRoom old new = (reader : ℕ) → undoable_at new reader ≡ undoable_at old reader
+abbrev pub SameUndoable : Body → Body → Type 0
+SameUndoable old new = (reader : ℕ) → undoable_at new reader ≡ undoable_at old reader
 
 -- the items of a channel of this kind; a broadcast list is on a shelf if the type of log uses shelves
 pub record IsOfKind (shelves : Bool) (kind : Kind) (body : Body) : Type 0 where

@@ -10,9 +10,9 @@ use Rattle.txc_cast.specs.declared.fault.CastFault.{CastFault}
 use Rattle.txc_cast.specs.declared.fault.CastFault.TheVariants.{NoReader, TooManyReaders, NoMemory}
 use Rattle.txc_chan.specs.declared.body.Body.{Body}
 use Rattle.txc_base.specs.declared.act.Act.TheVariants.{Took}
-use Rattle.txc_base.specs.declared.limits.TheConstants.{MOST_READERS}
+use Rattle.txc_base.specs.declared.limits.TheConstants.{MAX_READERS}
 use Rattle.txc_chan.specs.declared.body.Body.TheVariants.{Queue, Bounded, Shelved, Fanned}
-use Rattle.txc_chan.specs.Body.{bound_of, is_shelved, lists_of, undoable_at, Keeps, SameRoom, HasWrittenAll}
+use Rattle.txc_chan.specs.Body.{bound_of, is_shelved, lists_of, undoable_at, Keeps, SameUndoable, HasWrittenAll}
 use Rattle.txc_chan.specs.Reserved.{needs_room, one_if}
 
 -- the stop for an error of a broadcast list
@@ -42,12 +42,12 @@ pub record HasReader (body : Body) (reader : ℕ) : Type 0 where
 -- the number of the next reader, if one more is permitted
 pub record IsNextReader (body : Body) (number : ℕ) : Type 0 where
   pub last : number ≡ length (lists_of body)
-  pub few : length (lists_of body) < MOST_READERS
+  pub few : length (lists_of body) < MAX_READERS
 
 -- a change of what readers have to read, and of nothing else
 pub record ChangesLists (old new : Body) : Type 0 where
   pub keeps : Keeps old new
-  pub room : SameRoom old new
+  pub room : SameUndoable old new
   pub items : (items : List Item) → HasWrittenAll old items → HasWrittenAll new items
 
 -- these lists, with another list for one reader
@@ -72,14 +72,14 @@ abbrev pub room_for : Body → ℕ → Item → ℕ → ℕ
 room_for body taker item reader = one_if (needs_room (is_shelved body) reader (Took taker item))
 
 -- a take of an item can be undone once more than before
-abbrev pub MoreRoom : Option Item → Body → ℕ → Body → Type 0
-MoreRoom None old taker new = Unit {0}
-MoreRoom (Some item) old taker new = (reader : ℕ)
+abbrev pub MoreUndoable : Option Item → Body → ℕ → Body → Type 0
+MoreUndoable None old taker new = Unit {0}
+MoreUndoable (Some item) old taker new = (reader : ℕ)
     → undoable_at new reader ≡ undoable_at old reader + room_for old taker item reader
 
 -- a take of an item was undone
-abbrev pub LessRoom : Item → Body → ℕ → Body → Type 0
-LessRoom item old taker new = (reader : ℕ)
+abbrev pub LessUndoable : Item → Body → ℕ → Body → Type 0
+LessUndoable item old taker new = (reader : ℕ)
     → undoable_at old reader ≡ undoable_at new reader + room_for old taker item reader
 
 -- the last write can be undone
@@ -87,24 +87,24 @@ abbrev pub CanUndoWrite : Body → Type 0
 CanUndoWrite (Queue queue) = 0 < length queue.items
 CanUndoWrite (Bounded queue) = 0 < length queue.queue.items
 CanUndoWrite (Shelved cast) = CanUnappend cast
-CanUndoWrite (Fanned feed) = All (λ queue. 0 < length queue.items) feed
+CanUndoWrite (Fanned fanout) = All (λ queue. 0 < length queue.items) fanout
 
 -- this take can be undone
 abbrev pub CanUndoTake : Body → ℕ → Item → Type 0
 CanUndoTake (Queue queue) reader item = (reader ≡ 0) × (0 < queue.undoable)
 CanUndoTake (Bounded queue) reader item = (reader ≡ 0) × (0 < queue.queue.undoable)
 CanUndoTake (Shelved cast) reader item = CanUntakeAt cast reader item
-CanUndoTake (Fanned feed) reader item = (reader < length feed) × (0 < (queue_at feed reader).undoable)
+CanUndoTake (Fanned fanout) reader item = (reader < length fanout) × (0 < (queue_at fanout reader).undoable)
 
 -- this put-back can be undone
 abbrev pub CanUndoPutBack : Body → ℕ → Type 0
 CanUndoPutBack (Queue queue) reader = (reader ≡ 0) × (0 < length queue.items)
 CanUndoPutBack (Bounded queue) reader = (reader ≡ 0) × (0 < length queue.queue.items)
 CanUndoPutBack (Shelved cast) reader = CanUngiveAt cast reader
-CanUndoPutBack (Fanned feed) reader = (reader < length feed) × (0 < length (queue_at feed reader).items)
+CanUndoPutBack (Fanned fanout) reader = (reader < length fanout) × (0 < length (queue_at fanout reader).items)
 
 -- why a clone is rejected: no such reader, or otherwise too many readers (stm; the limit is this project's)
 abbrev pub CloneRefused : Stop → List (List Item) → ℕ → Type 0
 CloneRefused stop.NoReader lists reader = slice_get lists reader ≡ None
-CloneRefused stop.TooManyReaders lists reader = (reader < length lists) × (MOST_READERS ≤ length lists)
+CloneRefused stop.TooManyReaders lists reader = (reader < length lists) × (MAX_READERS ≤ length lists)
 CloneRefused other lists reader = ⊥

@@ -8,12 +8,12 @@ use Rattle.txc_base.specs.declared.stop.Stop.{Stop}
 use Rattle.txc_base.specs.declared.stop.Stop.TheVariants as stop
 use Rattle.txc_base.specs.declared.tag.Tag.{Tag}
 use Rattle.txc_base.specs.Channel.{Channel, opening, list_of}
-use Rattle.txc_base.specs.Fair.{IsFair, written}
+use Rattle.txc_base.specs.InOrder.{IsInOrder, written}
 use Rattle.txc_base.specs.Kinds.{is_broadcast}
 use Rattle.txc_base.specs.Log.{IsTrueTo}
 use Rattle.txc_base.specs.Next.{IsNext}
 use Rattle.txc_base.specs.Once.{IsOnce}
-use Rattle.txc_base.specs.Shut.{IsShut}
+use Rattle.txc_base.specs.StaysClosedLaw.{StaysClosed}
 use Rattle.txc_base.specs.Operation.{Did, Replies, Waits, says, with_body, with_list, while_open, with_room, with_left}
 use Rattle.txc_base.specs.Operation.{HasActs, is_plain_bounded, is_full, wrote, next_written, put_back, next_back}
 use Rattle.txc_base.specs.declared.act.Act.TheVariants.{Took}
@@ -50,9 +50,9 @@ pub record IsShelved (shelves : Bool) (held : ChanView) : Type 0 where
 
 -- the laws of logs for this kind, this log and the lists that it leaves; `once` is only for a queue
 pub record ObeysLaws (kind : Kind) (log : List Entry) (lists : List (List Item)) : Type 0 where
-  pub fair : IsFair log lists
+  pub in_order : IsInOrder log lists
   pub next : IsNext log lists
-  pub shut : IsShut log
+  pub stays_closed : StaysClosed log
   pub once : is_broadcast kind ≡ false → (list : List Item) × ((lists ≡ list ∷ []) × IsOnce log list)
 
 -- the outcome of a result that changes nothing

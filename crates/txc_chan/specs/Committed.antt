@@ -27,12 +27,12 @@ abbrev pub IsCommittedOp : Tag → Op → Act → Logged → Logged → Type 0
 IsCommittedOp tag op act old new = IsCommitted tag (operate old.channel tag.seat None op) act old new
 
 -- an operation that takes or adds one item: a write or a read
-abbrev pub is_move : Op → Bool
-is_move (Write chan body) = true
-is_move (TryWrite chan body) = true
-is_move (Read chan reader) = true
-is_move (TryRead chan reader) = true
-is_move op = false
+abbrev pub is_read_or_write : Op → Bool
+is_read_or_write (Write chan body) = true
+is_read_or_write (TryWrite chan body) = true
+is_read_or_write (Read chan reader) = true
+is_read_or_write (TryRead chan reader) = true
+is_read_or_write op = false
 
 -- what was done has no act: it waits, stops or only replies
 abbrev pub HasNoAct : Did → Type 0

@@ -1,22 +1,22 @@
 -- The limits of a declaration.
 use Rattle.std.specs.Prelude.{ℕ, ◌&&◌, Option, Some, None, List, [], ◌∷◌, nat_lt, if◌then◌else◌}
 use Rattle.txc_base.specs.declared.kind.Kind.{Kind}
-use Rattle.txc_base.specs.declared.limits.TheConstants.{MOST_BOUND}
-use Rattle.txc_base.specs.declared.limits.TheConstants.{MOST_READERS}
+use Rattle.txc_base.specs.declared.limits.TheConstants.{MAX_BOUND}
+use Rattle.txc_base.specs.declared.limits.TheConstants.{MAX_READERS}
 use Rattle.txc_base.specs.Kinds.{is_bounded, is_broadcast}
 use Rattle.txc_chan.specs.declared.decl.Decl.{Decl}
 use Rattle.txc_chan.specs.declared.fault.ChanFault.{ChanFault}
 use Rattle.txc_chan.specs.declared.fault.ChanFault.TheVariants.{BoundTooLarge, TooManyReaders}
 
 -- the largest bound
-abbrev pub most_bound : ℕ
-most_bound = MOST_BOUND
+abbrev pub max_bound : ℕ
+max_bound = MAX_BOUND
 
 -- the first fault of a declaration; `None` if a channel can be made of it
 abbrev pub declared_fault : Kind → ℕ → ℕ → Option ChanFault
 declared_fault kind bound readers =
-    if is_bounded kind && nat_lt most_bound bound then Some BoundTooLarge
-    else if is_broadcast kind && nat_lt MOST_READERS readers then Some TooManyReaders
+    if is_bounded kind && nat_lt max_bound bound then Some BoundTooLarge
+    else if is_broadcast kind && nat_lt MAX_READERS readers then Some TooManyReaders
     else None
 
 -- the first fault, or the other if there is none

@@ -33,8 +33,8 @@ opened decl = record {
 }
 
 -- the channel is what its log makes of a new channel with this declaration
-abbrev pub IsLawful : Logged → Type 0
-IsLawful l = IsTrueTo l.decl.kind l.decl.bound l.decl.readers l.log l.channel
+abbrev pub MatchesLog : Logged → Type 0
+MatchesLog l = IsTrueTo l.decl.kind l.decl.bound l.decl.readers l.log l.channel
 
 -- the channel after these acts of a transaction, which leave it in this state
 abbrev pub grown : Logged → Tag → List Act → Channel → Logged

@@ -4,21 +4,21 @@ ghost use Rattle.std.specs.Prelude.{◌++◌, length, map, drop, replicate, slic
 ghost use Rattle.std.specs.Prelude.{is_some, if◌then◌else◌, IfSome, IsTrue, IfOk, IfErr, OnOk, OnErr};
 ghost use Rattle.txc_base.specs.Kinds.{is_bounded, is_broadcast};
 ghost use Rattle.txc_base.specs.Channel.{opening};
-ghost use Rattle.txc_base.specs.declared.limits.TheConstants.{MOST_READERS};
+ghost use Rattle.txc_base.specs.declared.limits.TheConstants.{MAX_READERS};
 ghost use Rattle.txc_chan.specs.Limits.{declared_fault};
 ghost use Rattle.txc_cast.specs.Reader.{IsWritten, IsBack};
 ghost use Rattle.txc_cast.specs.Sights.{IsOf};
 ghost use Rattle.txc_chan.specs.Body.{is_cast, is_limited, bound_of, lists_of, slots_of, shelf_of, is_shelved};
-ghost use Rattle.txc_chan.specs.Body.{undoable_at, HasNoRoom, IsFresh, Keeps, SameRoom, HasWrittenAll};
-ghost use Rattle.txc_chan.specs.BodyCalls.{front_in, is_at_bound, list_at, lists_with, TakesFrom, MoreRoom};
-ghost use Rattle.txc_chan.specs.BodyCalls.{LessRoom, CloneRefused, CanUndoWrite, CanUndoTake, CanUndoPutBack};
+ghost use Rattle.txc_chan.specs.Body.{undoable_at, NothingUndoable, IsFresh, Keeps, SameUndoable, HasWrittenAll};
+ghost use Rattle.txc_chan.specs.BodyCalls.{front_in, is_at_bound, list_at, lists_with, TakesFrom, MoreUndoable};
+ghost use Rattle.txc_chan.specs.BodyCalls.{LessUndoable, CloneRefused, CanUndoWrite, CanUndoTake, CanUndoPutBack};
 ghost use Rattle.txc_chan.specs.BodyCalls.{ReadsIn, HasReader, IsNextReader, ChangesLists, stop_of};
 ghost use Rattle.txc_base_laws.specs.Undone.{front_of};
 ghost use Rattle.txc_base.specs.Operation.{is_plain_bounded};
 
 use crate::decl::Decl;
 use std::alloc::{AllocError, Global};
-use txc_base::{Item, Kind, List, MOST_READERS, Stop};
+use txc_base::{Item, Kind, List, MAX_READERS, Stop};
 use txc_cast::{Append, Cast, CastFault, Shelf, Sight};
 use txc_queue::{BoundQueue, PairQueue, QueueFault};
 use txc_queue_fanout::Fanout;
@@ -38,12 +38,12 @@ pub(crate) enum Body {
 /// copied once more.
 macro_rules! by_variant {
     ($body:expr, $queue:ident => $on_queue:expr, $bounded:ident => $on_bounded:expr, $cast:ident => $on_cast:expr,
-        $feed:ident => $on_feed:expr) => {
+        $fanout:ident => $on_fanout:expr) => {
         match $body {
             Body::Queue($queue) => return $on_queue,
             Body::Bounded($bounded) => return $on_bounded,
             Body::Shelved($cast) => return $on_cast,
-            Body::Fanned($feed) => return $on_feed,
+            Body::Fanned($fanout) => return $on_fanout,
         }
     };
 }
@@ -54,21 +54,21 @@ impl Body {
         ensures { (items : _) → HasWrittenAll self.now items
             → length (slots_of self.now items) ≡ (if is_cast self.now then length items else 0) }
     {
-        by_variant!(self, _queue => {}, _bounded => {}, cast => cast.show(), _feed => {})
+        by_variant!(self, _queue => {}, _bounded => {}, cast => cast.show(), _fanout => {})
     }
 
     /// Returns the bound, or 0 if the kind has none.
     pub(crate) fn bound(&self) -> u64
         ensures { result ≡ bound_of self.now }
     {
-        by_variant!(self, _queue => 0, queue => queue.bound(), _cast => 0, _feed => 0)
+        by_variant!(self, _queue => 0, queue => queue.bound(), _cast => 0, _fanout => 0)
     }
 
     /// Returns the number of readers.
     pub(crate) fn readers(&self) -> u16
         ensures { result ≡ length (lists_of self.now) }
     {
-        by_variant!(self, _queue => 1, _bounded => 1, cast => cast.readers(), feed => feed.readers())
+        by_variant!(self, _queue => 1, _bounded => 1, cast => cast.readers(), fanout => fanout.readers())
     }
 
     /// Returns whether there is a reader with this number.
@@ -81,10 +81,10 @@ impl Body {
     }
 
     /// Returns whether there are as many readers as are permitted.
-    pub(crate) fn has_no_place(&self) -> bool
-        ensures { result ≡ nat_le MOST_READERS (length (lists_of self.now)) }
+    pub(crate) fn is_at_reader_limit(&self) -> bool
+        ensures { result ≡ nat_le MAX_READERS (length (lists_of self.now)) }
     {
-        u64::from(self.readers()) >= MOST_READERS
+        u64::from(self.readers()) >= MAX_READERS
     }
 
     /// Returns the number of items in a queue.
@@ -96,7 +96,7 @@ impl Body {
             queue => queue.len(),
             queue => queue.len(),
             _cast => unreachable!(),
-            _feed => unreachable!())
+            _fanout => unreachable!())
     }
 
     /// Returns the item that a reader reads next, or `None` if there is nothing. Returns `NoReader` if there is no such
@@ -109,18 +109,18 @@ impl Body {
             queue => Ok(queue.front()),
             queue => Ok(queue.front()),
             cast => cast.front(reader).map_err(stop_for),
-            feed => feed.front(reader))
+            fanout => fanout.front(reader))
     }
 
     /// Returns whether a write must wait because the bound is reached.
     pub(crate) fn is_full(&self) -> bool
         ensures { result ≡ (is_limited self.now && is_at_bound self.now) }
     {
-        by_variant!(self, _queue => false, queue => queue.is_full(), _cast => false, _feed => false)
+        by_variant!(self, _queue => false, queue => queue.is_full(), _cast => false, _fanout => false)
     }
 
     /// Returns whether a put-back must wait because the bound of a `TBQueue` is reached, if this is the channel's kind.
-    pub(crate) fn is_closed_to_backs(&self, kind: Kind) -> bool
+    pub(crate) fn put_back_must_wait(&self, kind: Kind) -> bool
         requires { is_limited self.now ≡ is_bounded kind }
         ensures { result ≡ (is_plain_bounded kind && is_at_bound self.now) }
     {
@@ -129,14 +129,14 @@ impl Body {
 
     /// Writes an item after all others, for every reader. Returns `AllocError` if allocation fails. Blocks only if the
     /// handle permits it, on a broadcast list.
-    #[tactic(auto, using(crate::proofs::BodyLemmas::cast_rules, crate::proofs::FanoutLemmas::feed_rules))]
+    #[tactic(auto, using(crate::proofs::BodyLemmas::cast_rules, crate::proofs::FanoutLemmas::fanout_rules))]
     pub(crate) fn write<R: Append>(&mut self, rt: &R, item: Item) -> Result<(), AllocError>
         requires written { IsWritten item }
         requires room { (is_limited self.old && is_at_bound self.old) ≡ false }
         ensures lists { OnOk result (lists_of self.new ≡ map (λ list. list ++ item ∷ []) (lists_of self.old)) }
         ensures same { OnErr result (self.new ≡ self.old) }
         ensures keeps { Keeps self.old self.new }
-        ensures room { SameRoom self.old self.new }
+        ensures room { SameUndoable self.old self.new }
         ensures items { (items : _) → OnOk result (HasWrittenAll self.old items
             → HasWrittenAll self.new (items ++ item ∷ [])) }
     {
@@ -148,12 +148,12 @@ impl Body {
                 Err(QueueFault::NoMemory) => Err(AllocError),
             },
             cast => rt.append_to(cast, item).map_err(cast_refused),
-            feed => feed.append(item))
+            fanout => fanout.append(item))
     }
 
     /// Takes a reader's next item and returns it, or `None` if there is nothing. Returns `NoReader` if there is no such
     /// reader, and `NoMemory` if the allocation for the undo fails.
-    #[tactic(auto, using(crate::proofs::BodyLemmas::cast_rules, crate::proofs::FanoutLemmas::feed_rules))]
+    #[tactic(auto, using(crate::proofs::BodyLemmas::cast_rules, crate::proofs::FanoutLemmas::fanout_rules))]
     pub(crate) fn take(&mut self, reader: u16) -> Result<Option<Item>, Stop>
         requires { is_cast self.old ≡ false → reader ≡ 0 }
         ensures ok { IfOk result (λ taken. TakesFrom taken self.old reader self.new) }
@@ -161,14 +161,14 @@ impl Body {
             × (slice_get (lists_of self.old) reader ≡ None)) }
         ensures same { OnErr result (self.new ≡ self.old) }
         ensures keeps { Keeps self.old self.new }
-        ensures room { IfOk result (λ taken. MoreRoom taken self.old reader self.new) }
+        ensures room { IfOk result (λ taken. MoreUndoable taken self.old reader self.new) }
         ensures items { (items : _) → HasWrittenAll self.old items → HasWrittenAll self.new items }
     {
         by_variant!(self,
             queue => queue.pop_front().map_err(stopped),
             queue => queue.pop_front().map_err(stopped),
             cast => cast.take(reader).map_err(stop_for),
-            feed => feed.take(reader))
+            fanout => fanout.take(reader))
     }
 
     /// Moves a reader's first item into `to`, and makes all changes final: no take can be undone any more. Returns
@@ -183,9 +183,10 @@ impl Body {
             × (slice_get (lists_of self.old) reader ≡ None)) }
         ensures lists { OnErr result (lists_of self.new ≡ lists_of self.old) }
         ensures keeps { Keeps self.old self.new }
-        ensures room { HasNoRoom self.new }
+        ensures room { NothingUndoable self.new }
         ensures items { (items : _) → HasWrittenAll self.old items → HasWrittenAll self.new items }
     {
+        // Only for speed: a queue takes and settles in one call, and allocates nothing for an undo.
         match self {
             Body::Queue(queue) => return Ok(queue.take_settled(to)),
             Body::Bounded(queue) => return Ok(queue.take_settled(to)),
@@ -204,7 +205,7 @@ impl Body {
     }
 
     /// Puts an item in front of a reader's list. Returns `AllocError` if allocation fails.
-    #[tactic(auto, using(crate::proofs::BodyLemmas::reader_rules, crate::proofs::FanoutLemmas::feed_rules))]
+    #[tactic(auto, using(crate::proofs::BodyLemmas::reader_rules, crate::proofs::FanoutLemmas::fanout_rules))]
     pub(crate) fn put_back(&mut self, reader: u16, item: Item) -> Result<(), AllocError>
         requires back { IsBack item }
         requires there { slice_get (lists_of self.old) reader ≡ Some (list_at self.old reader) }
@@ -216,10 +217,11 @@ impl Body {
             queue => queue.push_front(item).map_err(refused),
             queue => queue.put_back_over(item).map_err(refused),
             cast => cast.put_back(reader, item).map_err(cast_refused),
-            feed => feed.put_back(reader, item).map_err(feed_refused))
+            fanout => fanout.put_back(reader, item).map_err(fanout_refused))
     }
 
-    /// Takes all items of a queue and returns them, in order. Returns `AllocError` if allocation fails.
+    /// Takes all items of a queue and returns them, in order. Each counts as a take that can be undone. Returns
+    /// `AllocError` if allocation fails.
     pub(crate) fn take_all(&mut self) -> Result<Vec<Item>, AllocError>
         requires { is_cast self.old ≡ false }
         ensures ok { IfOk result (λ all. lists_of self.old ≡ all.items ∷ []) }
@@ -232,18 +234,18 @@ impl Body {
             queue => queue.take_all().map_err(refused),
             queue => queue.take_all().map_err(refused),
             _cast => unreachable!(),
-            _feed => unreachable!())
+            _fanout => unreachable!())
     }
 
     /// Makes a reader with nothing to read and returns its number. Returns `TooManyReaders` if there are 64 readers,
     /// and `NoMemory` if allocation fails.
-    #[tactic(auto, using(crate::proofs::BodyLemmas::cast_rules, crate::proofs::FanoutLemmas::feed_rules))]
+    #[tactic(auto, using(crate::proofs::BodyLemmas::cast_rules, crate::proofs::FanoutLemmas::fanout_rules))]
     pub(crate) fn dup(&mut self) -> Result<u16, Stop>
         requires { is_cast self.old ≡ true }
         ensures number { IfOk result (λ number. IsNextReader self.old number) }
         ensures lists { OnOk result (lists_of self.new ≡ lists_of self.old ++ [] ∷ []) }
         ensures err { IfErr result (λ e. e ≢ Stop.NoMemory → (e ≡ Stop.TooManyReaders)
-            × (MOST_READERS ≤ length (lists_of self.old))) }
+            × (MAX_READERS ≤ length (lists_of self.old))) }
         ensures same { OnErr result (self.new ≡ self.old) }
         ensures only { ChangesLists self.old self.new }
     {
@@ -251,12 +253,12 @@ impl Body {
             _queue => unreachable!(),
             _bounded => unreachable!(),
             cast => cast.dup().map_err(stop_for),
-            feed => feed.dup())
+            fanout => fanout.dup())
     }
 
     /// Makes a reader with the same unread items as this one and returns its number. Returns `NoReader` if there is no
     /// such reader, `TooManyReaders` if there are 64 readers, and `NoMemory` if allocation fails.
-    #[tactic(auto, using(crate::proofs::BodyLemmas::reader_rules, crate::proofs::FanoutLemmas::feed_rules))]
+    #[tactic(auto, using(crate::proofs::BodyLemmas::reader_rules, crate::proofs::FanoutLemmas::fanout_rules))]
     pub(crate) fn clone_reader(&mut self, reader: u16) -> Result<u16, Stop>
         requires { is_cast self.old ≡ true }
         ensures number { IfOk result (λ number. IsNextReader self.old number) }
@@ -270,43 +272,43 @@ impl Body {
             _queue => unreachable!(),
             _bounded => unreachable!(),
             cast => cast.clone_reader(reader).map_err(stop_for),
-            feed => feed.clone_reader(reader))
+            fanout => fanout.clone_reader(reader))
     }
 
     /// Undoes the last write.
-    #[tactic(auto, using(crate::proofs::BodyLemmas::cast_rules, crate::proofs::FanoutLemmas::feed_rules))]
+    #[tactic(auto, using(crate::proofs::BodyLemmas::cast_rules, crate::proofs::FanoutLemmas::fanout_rules))]
     pub(crate) fn undo_write(&mut self)
         requires { CanUndoWrite self.old }
         ensures lists { lists_of self.new ≡ map front_of (lists_of self.old) }
         ensures keeps { Keeps self.old self.new }
-        ensures room { SameRoom self.old self.new }
+        ensures room { SameUndoable self.old self.new }
         ensures items { (items : _) → HasWrittenAll self.old items → HasWrittenAll self.new (front_of items) }
     {
         by_variant!(self,
             queue => queue.undo_push_back(),
             queue => queue.undo_push_back(),
             cast => cast.undo_append(),
-            feed => feed.undo_append())
+            fanout => fanout.undo_append())
     }
 
     /// Undoes a reader's take of this item.
-    #[tactic(auto, using(crate::proofs::BodyLemmas::cast_rules, crate::proofs::FanoutLemmas::feed_rules))]
+    #[tactic(auto, using(crate::proofs::BodyLemmas::cast_rules, crate::proofs::FanoutLemmas::fanout_rules))]
     pub(crate) fn undo_take(&mut self, reader: u16, item: Item)
         requires { CanUndoTake self.old reader item }
         ensures lists { lists_of self.new ≡ lists_with self.old reader (item ∷ list_at self.old reader) }
         ensures keeps { Keeps self.old self.new }
-        ensures room { LessRoom item self.old reader self.new }
+        ensures room { LessUndoable item self.old reader self.new }
         ensures items { (items : _) → HasWrittenAll self.old items → HasWrittenAll self.new items }
     {
         by_variant!(self,
             queue => queue.undo_pop(item),
             queue => queue.undo_pop(item),
             cast => cast.undo_take(reader, item),
-            feed => feed.undo_take(reader, item))
+            fanout => fanout.undo_take(reader, item))
     }
 
     /// Undoes the last put-back to a reader.
-    #[tactic(auto, using(crate::proofs::BodyLemmas::cast_rules, crate::proofs::FanoutLemmas::feed_rules))]
+    #[tactic(auto, using(crate::proofs::BodyLemmas::cast_rules, crate::proofs::FanoutLemmas::fanout_rules))]
     pub(crate) fn undo_put_back(&mut self, reader: u16)
         requires { CanUndoPutBack self.old reader }
         ensures lists { lists_of self.new ≡ lists_with self.old reader (drop 1 (list_at self.old reader)) }
@@ -316,11 +318,11 @@ impl Body {
             queue => queue.undo_push_front(),
             queue => queue.undo_push_front(),
             cast => cast.undo_put_back(reader),
-            feed => feed.undo_put_back(reader))
+            fanout => fanout.undo_put_back(reader))
     }
 
     /// Removes the last reader.
-    #[tactic(auto, using(crate::proofs::BodyLemmas::cast_rules, crate::proofs::FanoutLemmas::feed_rules))]
+    #[tactic(auto, using(crate::proofs::BodyLemmas::cast_rules, crate::proofs::FanoutLemmas::fanout_rules))]
     pub(crate) fn undo_reader(&mut self)
         requires broadcast { is_cast self.old ≡ true }
         requires there { 0 < length (lists_of self.old) }
@@ -334,23 +336,23 @@ impl Body {
             _queue => unreachable!(),
             _bounded => unreachable!(),
             cast => cast.undo_reader(),
-            feed => feed.undo_reader())
+            fanout => fanout.undo_reader())
     }
 
     /// Makes all changes final: none of them can be undone, and no room is reserved for undoing them.
-    #[tactic(auto, using(crate::proofs::BodyLemmas::cast_rules, crate::proofs::FanoutLemmas::feed_rules))]
+    #[tactic(auto, using(crate::proofs::BodyLemmas::cast_rules, crate::proofs::FanoutLemmas::fanout_rules))]
     pub(crate) fn settle(&mut self)
         ensures lists { lists_of self.new ≡ lists_of self.old }
         ensures slots { (items : _) → slots_of self.new items ≡ slots_of self.old items }
         ensures keeps { Keeps self.old self.new }
         ensures items { (items : _) → HasWrittenAll self.old items → HasWrittenAll self.new items }
-        ensures room { HasNoRoom self.new }
+        ensures room { NothingUndoable self.new }
     {
         by_variant!(self,
             queue => queue.settle(),
             queue => queue.settle(),
             cast => cast.settle(),
-            feed => feed.settle())
+            fanout => fanout.settle())
     }
 
     /// Returns the unread items of each reader, by reader number. Returns `AllocError` if allocation fails.
@@ -358,10 +360,10 @@ impl Body {
         ensures { IfOk result (λ lists. lists.items ≡ lists_of self.now) }
     {
         by_variant!(self,
-            queue => only_list(alloc, queue.list().map_err(refused)?),
-            queue => only_list(alloc, queue.list().map_err(refused)?),
+            queue => single_list(alloc, queue.list().map_err(refused)?),
+            queue => single_list(alloc, queue.list().map_err(refused)?),
             cast => cast.lists(),
-            feed => feed.lists())
+            fanout => fanout.lists())
     }
 
     /// Returns whether the written item number `place` is at the slot of this sight, which must be of this list's
@@ -378,7 +380,7 @@ impl Body {
             _queue => false,
             _bounded => false,
             cast => cast.agrees(place, sight),
-            _feed => unreachable!())
+            _fanout => unreachable!())
     }
 
     /// Returns the slot of each written item, in order; a queue has no slots. A broadcast list must be on a shelf.
@@ -391,7 +393,7 @@ impl Body {
             _queue => Ok(Vec::new(alloc)),
             _bounded => Ok(Vec::new(alloc)),
             cast => cast.slots(),
-            _feed => unreachable!())
+            _fanout => unreachable!())
     }
 }
 
@@ -414,7 +416,7 @@ fn cast_refused(_fault: CastFault) -> AllocError {
 }
 
 // The error of a put-back to the queue of an existing reader: allocation failed.
-fn feed_refused(_stop: Stop) -> AllocError {
+fn fanout_refused(_stop: Stop) -> AllocError {
     AllocError
 }
 
@@ -430,7 +432,7 @@ fn stop_for(fault: CastFault) -> Stop
 }
 
 /// Returns the lists of a queue: this one. Returns `AllocError` if allocation fails.
-fn only_list(alloc: Global, list: Vec<Item>) -> Result<Vec<List<Item>>, AllocError>
+fn single_list(alloc: Global, list: Vec<Item>) -> Result<Vec<List<Item>>, AllocError>
     ensures { IfOk result (λ lists. lists.items ≡ list.items ∷ []) }
 {
     let mut lists = Vec::new(alloc);
@@ -473,7 +475,7 @@ fn make_cast(
     readers: u16,
     shelves: bool,
 ) -> Result<(Body, Option<Shelf>), AllocError>
-    requires { readers ≤ MOST_READERS }
+    requires { readers ≤ MAX_READERS }
     ensures cast { IfOk result (λ made. is_cast made.0 ≡ true) }
     ensures limited { IfOk result (λ made. is_limited made.0 ≡ false) }
     ensures bound { IfOk result (λ made. bound_of made.0 ≡ 0) }
@@ -490,7 +492,7 @@ fn make_cast(
         return Ok((Body::Shelved(cast), Some(shelf)));
     }
     match Fanout::new(alloc, readers) {
-        Ok(feed) => Ok((Body::Fanned(feed), None)),
+        Ok(fanout) => Ok((Body::Fanned(fanout), None)),
         Err(_) => Err(AllocError),
     }
 }

@@ -2,11 +2,11 @@
 ghost use Rattle.std.specs.Prelude.{◌≡◌, ◌≢◌, ◌≤◌, ◌+◌, ◌&&◌, true, [], length, slice_get, Some, None, is_some};
 ghost use Rattle.std.specs.Prelude.{IfOk, IfErr, OnOk};
 ghost use Rattle.std.specs.Prelude.{OnErr};
-ghost use Rattle.txc_base.specs.Kinds.{is_broadcast, suits};
+ghost use Rattle.txc_base.specs.Kinds.{is_broadcast, supports};
 ghost use Rattle.txc_base.specs.Operation.{HasActs, operate};
 ghost use Rattle.txc_chan.specs.Chan.{IsShelved};
 ghost use Rattle.txc_chan.specs.Limits.{declared_fault};
-ghost use Rattle.txc_chan.specs.Logged.{opened, IsLawful, op_on, did, UnlessReplied, Stopped};
+ghost use Rattle.txc_chan.specs.Logged.{opened, MatchesLog, op_on, did, UnlessReplied, Stopped};
 
 use crate::answer::Answer;
 use crate::body::{Body, make_body};
@@ -26,8 +26,8 @@ pub(crate) mod commit;
 mod commit_op;
 mod put_back;
 mod readers;
+mod snapshots;
 mod take;
-mod tell;
 mod undo;
 mod waits;
 mod write;
@@ -53,7 +53,7 @@ pub struct Chan<K: Log> {
 
 impl<K: Log> Model for Chan<K> {
     ghost use Rattle.txc_chan.specs.Body.{channel_of, slots_of, shelf_of};
-    ghost use Rattle.txc_base.specs.Fair.{written as written_in};
+    ghost use Rattle.txc_base.specs.InOrder.{written as written_in};
     ghost use Rattle.txc_chan.specs.Chan.{IsChan};
     ghost use Rattle.txc_chan.specs.ChanView.{ChanView};
 
@@ -121,7 +121,7 @@ impl<K: Log> Chan<K> {
     /// its whole log can be undone. A broadcast channel has a slot for each written item, and a shelf if its log type
     /// uses shelves. A queue has neither.
     pub fn show(&self)
-        ensures lawful { IsLawful self.now.logged }
+        ensures lawful { MatchesLog self.now.logged }
         ensures pending { self.now.logged.pending ≤ length self.now.logged.log }
         ensures shelved { IsShelved K.shelves self.now }
     {
@@ -178,7 +178,7 @@ impl<K: Log> Chan<K> {
     /// Returns how many of the last entries can be undone.
     pub fn pending(&self) -> usize
         ensures value { result ≡ self.now.logged.pending }
-        ensures lawful { IsLawful self.now.logged }
+        ensures lawful { MatchesLog self.now.logged }
     {
         self.log.undoable()
     }
@@ -199,7 +199,8 @@ impl<K: Log> Chan<K> {
     }
 
     /// Does an operation of a transaction and adds its acts to the log with this tag. `last` is the body that the
-    /// transaction read or peeked last. The operation must suit the kind of the channel (`txc_base::suits`). Returns
+    /// transaction read or peeked last. The kind of the channel must support the operation (`txc_base::supports`).
+    /// Returns
     /// the reply, or `Retry` with the cause if the transaction must wait.
     ///
     /// Returns `NoReader`, `NothingRead` or `TooManyReaders` if the operation aborts. Otherwise returns `NoMemory` if
@@ -212,7 +213,7 @@ impl<K: Log> Chan<K> {
         op: &Op,
         last: Option<u64>,
     ) -> Result<Answer, Stop>
-        requires { suits self.old.logged.decl.kind op.now ≡ true }
+        requires { supports self.old.logged.decl.kind op.now ≡ true }
         ensures ok { IfOk result (λ a. op_on self.old.logged tag last op.now ≡ did a self.new.logged) }
         ensures err { IfErr result (λ e. e ≢ Stop.NoMemory → op_on self.old.logged tag last op.now ≡ Stopped e) }
         ensures memory { IfErr result (λ e. e ≡ Stop.NoMemory

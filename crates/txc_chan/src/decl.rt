@@ -5,7 +5,7 @@ ghost use Rattle.txc_chan.specs.Limits.{declared_fault};
 
 use crate::fault::ChanFault;
 use std::alloc::{AllocError, Global};
-use txc_base::{Kind, MOST_BOUND, MOST_READERS};
+use txc_base::{Kind, MAX_BOUND, MAX_READERS};
 
 /// The declaration of a channel. The bound is used only for the two bounded kinds, and the number of readers only for
 /// the two broadcast kinds. Other kinds have the bound 0 and 1 reader.
@@ -25,10 +25,10 @@ impl Decl {
     pub fn fault(&self) -> Option<ChanFault>
         ensures { result ≡ declared_fault self.now.kind self.now.bound self.now.readers }
     {
-        if self.kind.is_bounded() && self.bound > MOST_BOUND {
+        if self.kind.is_bounded() && self.bound > MAX_BOUND {
             return Some(ChanFault::BoundTooLarge);
         }
-        if self.kind.is_broadcast() && self.readers > MOST_READERS {
+        if self.kind.is_broadcast() && self.readers > MAX_READERS {
             return Some(ChanFault::TooManyReaders);
         }
         None

@@ -6,16 +6,16 @@ use std::snapshot::Snapshot;
 
 /// The parts of a list. No value of this type stays in memory: only snapshots refer to it.
 #[derive(Drop)]
-pub(crate) enum Past<E: Drop> {
+pub(crate) enum Node<E: Drop> {
     Nothing,
-    One(Snapshot<Snapshot<Past<E>>>, Snapshot<E>),
-    More(Snapshot<Snapshot<Past<E>>>, Snapshot<Vec<E>>),
+    One(Snapshot<Snapshot<Node<E>>>, Snapshot<E>),
+    More(Snapshot<Snapshot<Node<E>>>, Snapshot<Vec<E>>),
 }
 
 /// A list that exists only in proofs and uses no memory. In a contract it is the list itself.
 #[derive(Drop)]
 pub struct GhostList<E: Drop> {
-    past: Snapshot<Past<E>>,
+    past: Snapshot<Node<E>>,
 }
 
 impl<E: Drop> Model for GhostList<E> {
@@ -32,7 +32,7 @@ impl<E: Drop> GhostList<E> {
     pub fn new() -> GhostList<E>
         ensures { result ≡ [] }
     {
-        let nothing = Past::Nothing;
+        let nothing = Node::Nothing;
         GhostList {
             past: Snapshot::of(&nothing),
         }
@@ -42,7 +42,7 @@ impl<E: Drop> GhostList<E> {
     pub fn push(&mut self, one: &E)
         ensures { self.new ≡ self.old ++ one.now ∷ [] }
     {
-        let past = Past::One(Snapshot::of(&self.past), Snapshot::of(one));
+        let past = Node::One(Snapshot::of(&self.past), Snapshot::of(one));
         self.past = Snapshot::of(&past);
     }
 
@@ -50,7 +50,7 @@ impl<E: Drop> GhostList<E> {
     pub fn add(&mut self, more: &Vec<E>)
         ensures { self.new ≡ self.old ++ more.now.items }
     {
-        let past = Past::More(Snapshot::of(&self.past), Snapshot::of(more));
+        let past = Node::More(Snapshot::of(&self.past), Snapshot::of(more));
         self.past = Snapshot::of(&past);
     }
 }

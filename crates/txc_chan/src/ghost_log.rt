@@ -62,7 +62,7 @@ impl Log for GhostLog {
 
     fn reserve(&mut self, more: usize) -> Result<(), AllocError> {
         // Memory bounds only the pending entries, not the number of all entries.
-        if usize::MAX - self.len() < more {
+        if usize::MAX - (self.settled + self.pending.len()) < more {
             return Err(AllocError);
         }
         self.pending.reserve(more)
@@ -73,7 +73,7 @@ impl Log for GhostLog {
     }
 
     fn reserve_settled(&mut self) -> Result<(), AllocError> {
-        if self.len() == usize::MAX {
+        if self.settled + self.pending.len() == usize::MAX {
             return Err(AllocError);
         }
         Ok(())

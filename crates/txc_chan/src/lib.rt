@@ -30,4 +30,4 @@ pub use ghost_log::GhostLog;
 pub use log::Log;
 pub use summary::Summary;
 pub use txc_base_laws as laws;
-pub use txc_cast::{Alone, Append};
+pub use txc_cast::{Append, NonBlocking};

@@ -18,7 +18,7 @@ pub(crate) fn body_from(last: Option<u64>, body: Source) -> Option<u64>
 }
 
 /// Returns the item that a transaction with this tag makes of a body.
-pub(crate) fn made_item(tag: Tag, origin: Origin, body: u64) -> Item
+pub(crate) fn make_item(tag: Tag, origin: Origin, body: u64) -> Item
     ensures { result ≡ record { origin = origin; seat = tag.seat; body = body } }
 {
     Item {

@@ -1,7 +1,7 @@
 // A closable queue with a recorded log.
 use std::process::Abort;
 use std::sync::Wait;
-use txc_base::{Item, Kind, Op, Origin, Reply, Source, Tag, suits};
+use txc_base::{Item, Kind, Op, Origin, Reply, Source, Tag, supports};
 use txc_chan::{Answer, Chan, ChanFault, FullLog};
 
 const TAG: Tag = Tag {
@@ -12,7 +12,7 @@ const TAG: Tag = Tag {
 
 /// Asserts that an operation is done. Panics if the channel doesn't have the operation.
 fn does<R: Wait + Abort>(rt: &R, chan: &mut Chan<FullLog>, op: &Op) {
-    if suits(chan.kind(), op) {
+    if supports(chan.kind(), op) {
         let answer = chan.apply(rt, TAG, op, None);
         assert!(rt; answer == Ok(Answer::Replied(Reply::Done)), "at {op:?}");
     } else {

@@ -6,7 +6,7 @@ use Rattle.txc_base.specs.Channel.{opening}
 use Rattle.txc_base_laws.proofs.Truth.{determined}
 use Rattle.txc_chan.specs.declared.account.Account.{Account}
 use Rattle.txc_chan.specs.declared.decl.Decl.{Decl}
-use Rattle.txc_chan.specs.Logged.{IsLawful, Logged}
+use Rattle.txc_chan.specs.Logged.{MatchesLog, Logged}
 use Rattle.txc_txn.specs.Maps.{Map}
 use Rattle.txc_table_line.specs.Account.{IsAccount}
 use Rattle.txc_table_line.specs.Line.{decl_at, no_line}
@@ -16,7 +16,7 @@ use Rattle.txc_txn_history.specs.OneOrder.{Shows}
 
 -- an account without its slots is that of the channel that it shows, where both are of one declaration
 same_account : (decl : Decl) (amount : ℕ) (account : Account) (l : Logged) → IsAccount decl amount account
-    → Shows account l → l.decl ≡ decl → IsLawful l → without_slots account ≡ account_in l
+    → Shows account l → l.decl ≡ decl → MatchesLog l → without_slots account ≡ account_in l
 same_account decl amount account l is shows declared lawful =
     ap without_slots is.is ∙ (λ i. record {
       kind = (both i).kind;
@@ -36,7 +36,7 @@ same_account decl amount account l is shows declared lawful =
 
     channel : is.held.logged.channel ≡ l.channel
     channel = determined l.decl.kind l.decl.bound l.decl.readers l.log is.held.logged.channel l.channel
-        (subst (λ (x : Logged). IsLawful x) (λ i. record {
+        (subst (λ (x : Logged). MatchesLog x) (λ i. record {
           decl = both i;
           channel = is.held.logged.channel;
           log = log i;
@@ -63,7 +63,7 @@ same_accounts chan (decl ∷ decls) (account ∷ accounts) m same each =
 -- an account of a declared channel is that of a channel as it was declared
 pub account_is : (decls : List Decl) (n amount : ℕ) (decl : Decl) (account : Account) (l : Logged)
     → slice_get decls n ≡ Some decl → IsAccount (decl_at decls n) amount account
-    → Shows account l → (l.decl ≡ decl) × IsLawful l → without_slots account ≡ account_in l
+    → Shows account l → (l.decl ≡ decl) × MatchesLog l → without_slots account ≡ account_in l
 account_is decls n amount decl account l at is shows so =
     same_account decl amount account l
     (subst (λ (d : Decl). IsAccount d amount account) (get_or_from_slice_get decls n decl no_line at) is) shows so.0

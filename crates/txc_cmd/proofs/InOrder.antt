@@ -10,7 +10,7 @@ use Rattle.txc_txn.specs.Maps.{Map, settle_all}
 use Rattle.txc_txn.specs.Run.{receipt_of}
 use Rattle.txc_txn.specs.Transaction.{Kept, kept_tag, transaction}
 use Rattle.txc_cmd_report.specs.declared.seat_end.SeatEnd.TheVariants.{Finished}
-use Rattle.txc_table_seat.specs.Seated.{IsOwn}
+use Rattle.txc_table_seat.specs.Seated.{AreReceiptsOf}
 use Rattle.txc_txn_history.specs.Commits.{Has}
 use Rattle.txc_txn_history.specs.Events.{Event, asked, events_of}
 use Rattle.txc_txn_history.specs.OneOrder.{Occurs, Runs}
@@ -60,7 +60,7 @@ pub record Stands (seat : ℕ) (plans : List CheckedView) (receipts : List Recei
   pub split : receipts ≡ s.receipts ++ later
   pub going : s.end ≡ Finished
   pub its : events ≡ events_of seat (last_stamp s.receipts) (drop (length s.receipts) plans) later
-  pub own : IsOwn seat (length s.receipts) later
+  pub own : AreReceiptsOf seat (length s.receipts) later
 
 -- the stamp of a receipt that was added last
 last_pushed : (receipts : List Receipt) (receipt : Receipt) → last_stamp (receipts ++ receipt ∷ []) ≡ receipt.tag.stamp
@@ -96,7 +96,7 @@ record Took (plans : List CheckedView) (receipts : List Receipt) (m next : Map) 
 took_of : (seat : ℕ) (plans : List CheckedView) (receipts : List Receipt) (m next : Map) (s : SeatProgress) (e : Event)
     (es : List Event) (left : List CheckedView) (later : List Receipt)
     → drop (length s.receipts) plans ≡ left → receipts ≡ s.receipts ++ later → s.end ≡ Finished
-    → e ∷ es ≡ events_of seat (last_stamp s.receipts) left later → IsOwn seat (length s.receipts) later
+    → e ∷ es ≡ events_of seat (last_stamp s.receipts) left later → AreReceiptsOf seat (length s.receipts) later
     → Occurs m e next → Took plans receipts m next s e es
 took_of seat plans receipts m next s e es [] later dropped split going same own occurs = absurd (cc)
 took_of seat plans receipts m next s e es (plan ∷ left) [] dropped split going same own occurs = absurd (cc)
@@ -114,7 +114,7 @@ took_of seat plans receipts m next s e es (plan ∷ left) (receipt ∷ later) dr
         going = refl;
         its = rest ∙ (λ i. events_of seat (sym (last_pushed s.receipts receipt) i)
             (sym (ap (λ k. drop k plans) one ∙ next_drop plans (length s.receipts) plan left dropped) i) later);
-        own = subst (λ k. IsOwn seat k later) (sym one) own.3;
+        own = subst (λ k. AreReceiptsOf seat k later) (sym one) own.3;
       };
     })
 
@@ -126,7 +126,8 @@ took plans receipts m next s e es stands occurs =
     stands.going stands.its stands.own occurs
 
 -- each seat stands so, of those with these transactions and receipts
-pub record AllStand (seats : List (List CheckedView)) (receipts : List (List Receipt)) (progress : List SeatProgress)
+pub record ArePlacedEvents (seats : List (List CheckedView)) (receipts : List (List Receipt))
+    (progress : List SeatProgress)
     (events : List Event) : Type 0 where
   pub many : length progress ≡ length seats
   pub within : (e : Event) → Has events e → e.seat < length seats
@@ -136,10 +137,11 @@ pub record AllStand (seats : List (List CheckedView)) (receipts : List (List Rec
 -- the seats after the turn of the first event
 stand_next : (seats : List (List CheckedView)) (receipts : List (List Receipt)) (progress : List SeatProgress)
     (m next : Map)
-    (e : Event) (es : List Event) → AllStand seats receipts progress (e ∷ es)
+    (e : Event) (es : List Event) → ArePlacedEvents seats receipts progress (e ∷ es)
     → Took (slice_index_or seats e.seat []) (slice_index_or receipts e.seat []) m next
     (slice_index_or progress e.seat untried) e (of_seat e.seat es)
-    → AllStand seats receipts (set progress e.seat (with_one (slice_index_or progress e.seat untried) e.receipt)) es
+    → ArePlacedEvents seats receipts (set progress e.seat (with_one (slice_index_or progress e.seat untried) e.receipt))
+    es
 stand_next seats receipts progress m next e es all turned = record {
   many = length-set progress e.seat now ∙ all.many;
   within = λ x h. all.within x (inr h);
@@ -166,10 +168,10 @@ pub record Turned (seats : List (List CheckedView)) (receipts : List (List Recei
     (progress : List SeatProgress) : Type 0 where
   pub after : List SeatProgress
   pub comes : turns seats (map (λ (e : Event). e.seat) order) (round_to m progress true) ≡ round_to left after true
-  pub stand : AllStand seats receipts after []
+  pub stand : ArePlacedEvents seats receipts after []
 
 pub turned : (seats : List (List CheckedView)) (receipts : List (List Receipt)) (m left : Map) (order : List Event)
-    (progress : List SeatProgress) → AllStand seats receipts progress order → Runs m order left
+    (progress : List SeatProgress) → ArePlacedEvents seats receipts progress order → Runs m order left
     → Turned seats receipts m left order progress
 turned seats receipts m left [] progress all runs = record {
   after = progress;

@@ -17,10 +17,10 @@ use Rattle.txc_base_laws.proofs.Bridge.{stays_true}
 use Rattle.txc_base_laws.proofs.Lists.{at_map}
 use Rattle.txc_chan.specs.declared.decl.Decl.{Decl}
 use Rattle.txc_chan.specs.Decls.{kinds_in}
-use Rattle.txc_chan.specs.Logged.{IsLawful, Logged, grown, opened, settled}
+use Rattle.txc_chan.specs.Logged.{MatchesLog, Logged, grown, opened, settled}
 use Rattle.txc_txn_check.specs.declared.step.Step.{Step}
 use Rattle.txc_txn_check.specs.declared.step.Step.TheVariants.{Or}
-use Rattle.txc_txn_check.specs.Steps.{Every, Fits, every, is_fit, suits_there}
+use Rattle.txc_txn_check.specs.Steps.{Every, Fits, every, is_fit, supported_there}
 use Rattle.txc_txn_check.proofs.Folds.{and_left, at_or, every-Do}
 use Rattle.txc_txn_check.proofs.Induction.{EachBranch, EachStep, by_steps, each_of}
 use Rattle.txc_txn.specs.Maps.{Map, put_at, settle_all}
@@ -37,7 +37,7 @@ use Rattle.txc_txn_history.specs.OneOrder.{Occurs, Runs}
 
 -- each declared channel is as it was declared, and true to its log
 abbrev pub AreTrue : List Decl → Map → Type 0
-AreTrue decls m = (n : ℕ) (decl : Decl) → slice_get decls n ≡ Some decl → ((m n).decl ≡ decl) × IsLawful (m n)
+AreTrue decls m = (n : ℕ) (decl : Decl) → slice_get decls n ≡ Some decl → ((m n).decl ≡ decl) × MatchesLog (m n)
 
 -- a declared channel as it is made
 opening_at : (decls : List Decl) (n : ℕ) (decl : Decl) → slice_get decls n ≡ Some decl
@@ -50,7 +50,7 @@ opening_at (d ∷ decls) (suc n) decl at = opening_at decls n decl at
 pub opening_true : (decls : List Decl) → AreTrue decls (opening_map decls)
 opening_true decls n decl at =
     let here = opening_at decls n decl at in
-    (ap (λ (l : Logged). l.decl) here, subst (λ (l : Logged). IsLawful l) (sym here) refl)
+    (ap (λ (l : Logged). l.decl) here, subst (λ (l : Logged). MatchesLog l) (sym here) refl)
 
 -- settling leaves them so
 settle_true : (decls : List Decl) (m : Map) (stamp : ℕ) (ns : List ℕ) → AreTrue decls m
@@ -58,7 +58,7 @@ settle_true : (decls : List Decl) (m : Map) (stamp : ℕ) (ns : List ℕ) → Ar
 settle_true decls m stamp ns so n decl at =
     let same = settle_keeps (λ l. settled 0 l) stamp (λ l. refl) m ns n in
     let was = so n decl at in
-    (ap (λ (l : Logged). l.decl) same ∙ was.0, subst (λ (l : Logged). IsLawful l) (sym same) was.1)
+    (ap (λ (l : Logged). l.decl) same ∙ was.0, subst (λ (l : Logged). MatchesLog l) (sym same) was.1)
 
 module _ (decls : List Decl) where
   -- so they are where it goes on
@@ -79,10 +79,10 @@ module _ (decls : List Decl) where
   else_true (Again cause) other so more = more cause
   else_true (Aborted stop) other so more = tt
 
-  allowed : (there : Option Kind) (kind : Kind) (op : Op) → there ≡ Some kind → suits_there there op ≡ true
+  allowed : (there : Option Kind) (kind : Kind) (op : Op) → there ≡ Some kind → supported_there there op ≡ true
       → allowed_for kind op ≡ true
   allowed there kind op is fit = and_left (allowed_for kind op) (names_its_reader kind op)
-      (sym (ap (λ t. suits_there t op) is) ∙ fit)
+      (sym (ap (λ t. supported_there t op) is) ∙ fit)
 
   module _ (tag : Tag) where
     did_true : (op : Op) (s : State) → is_fit (slice_get (kinds_in decls)) op ≡ true → AreTrue decls s.chans
@@ -99,7 +99,7 @@ module _ (decls : List Decl) where
           let here : put_at s.chans (chan_of op) (grown l tag acts left) n ≡ grown l tag acts left =
           ap (λ b. if b then grown l tag acts left else s.chans n) t.0 in (
             ap (λ (x : Logged). x.decl) here ∙ was.0,
-            subst (λ (x : Logged). IsLawful x) (sym here)
+            subst (λ (x : Logged). MatchesLog x) (sym here)
                 (stays_true l.decl.kind l.decl.bound l.decl.readers l.log l.channel left tag s.last op reply acts was.1
                 may is),
           ))
@@ -107,7 +107,7 @@ module _ (decls : List Decl) where
           (let there : put_at s.chans (chan_of op) (grown (s.chans (chan_of op)) tag acts left) n ≡ s.chans n =
           ap (λ b. if b then grown (s.chans (chan_of op)) tag acts left else s.chans n) t.0 in
           let was = so n decl at in
-          (ap (λ (x : Logged). x.decl) there ∙ was.0, subst (λ (x : Logged). IsLawful x) (sym there) was.1))
+          (ap (λ (x : Logged). x.decl) there ∙ was.0, subst (λ (x : Logged). MatchesLog x) (sym there) was.1))
     ]
     did_true op s fit so (Waits cause) is = tt
     did_true op s fit so (Stops stop) is = tt

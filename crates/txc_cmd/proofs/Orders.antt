@@ -15,13 +15,13 @@ use Rattle.txc_txn.specs.Limits.{CheckedView}
 use Rattle.txc_txn.specs.Maps.{Map}
 use Rattle.txc_txn.specs.Opening.{opening_map}
 use Rattle.txc_table_report.specs.Finished.{AreTheirs}
-use Rattle.txc_table_report.specs.Gathered.{AreOwn, count_all}
+use Rattle.txc_table_report.specs.Gathered.{AreReceiptsOfAll, count_all}
 use Rattle.txc_txn_history.specs.Commits.{Has}
 use Rattle.txc_txn_history.specs.Events.{Event, events_from, events_of}
 use Rattle.txc_txn_history.specs.OneOrder.{IsOneOrder, IsOrder}
 use Rattle.txc_txn_history.proofs.Turns.{has_either}
-use Rattle.txc_table.specs.Seat.{sittings_of}
-use Rattle.txc_table_seat.specs.Seated.{IsOwn, Sitting, untouched, with_receipt}
+use Rattle.txc_table.specs.Seat.{commits_of}
+use Rattle.txc_table_seat.specs.Seated.{AreReceiptsOf, SeatCommits, no_commits, with_receipt}
 use Rattle.txc_cmd_report.specs.declared.outcome.Outcome.{Outcome as Ran}
 use Rattle.txc_cmd_report.specs.declared.seat_end.SeatEnd.{SeatEnd}
 use Rattle.txc_cmd_report.specs.declared.seat_end.SeatEnd.TheVariants.{Finished, Stalled, Stopped}
@@ -33,18 +33,18 @@ use Rattle.txc_cmd_threads.specs.Serves.{Serves}
 use Rattle.txc_cmd_answer.specs.Answer.{Answer, reported}
 use Rattle.txc_cmd.specs.Answer.{ComesOf}
 use Rattle.txc_cmd.specs.InOrder.{IsOfSomeOrder, MayEnd, last_turn}
-use Rattle.txc_cmd.proofs.InOrder.{AllStand, Stands, Turned, turned}
+use Rattle.txc_cmd.proofs.InOrder.{ArePlacedEvents, Stands, Turned, turned}
 use Rattle.txc_cmd.proofs.Accounts.{account_is, same_accounts}
 use Rattle.txc_cmd.proofs.Lawful.{AreTrue, opening_true, runs_true}
 use Rattle.txc_cmd.proofs.SeatOrder.{has_permuted, of_seat, own_order, within}
 
 -- a seat that served these transactions has kept all of them, or ends by the next one
-pub may_end : (lines : List Decl) (plans : List CheckedView) (before after : Sitting) (end : SeatEnd)
+pub may_end : (lines : List Decl) (plans : List CheckedView) (before after : SeatCommits) (end : SeatEnd)
     → Serves lines plans before after end
     → MayEnd (length before.receipts + length plans) (length after.receipts) end
 may_end lines [] before after end s =
     subst (λ e. MayEnd (length before.receipts + 0) (length after.receipts) e) (sym s.1)
-    (omega (arith, ap (λ (x : Sitting). length x.receipts) s.0))
+    (omega (arith, ap (λ (x : SeatCommits). length x.receipts) s.0))
 may_end lines (plan ∷ plans) before after end (inl s) =
     let one : length (before.receipts ++ s.0 ∷ []) + length plans ≡ length before.receipts + suc (length plans) =
     omega (arith, length-append before.receipts (s.0 ∷ [])) in
@@ -52,9 +52,9 @@ may_end lines (plan ∷ plans) before after end (inl s) =
     (may_end lines plans (with_receipt before plan s.0) after end s.2)
 may_end lines (plan ∷ plans) before after Finished (inr s) = absurd s.1
 may_end lines (plan ∷ plans) before after (Stalled cause) (inr s) =
-    omega (arith, ap (λ (x : Sitting). length x.receipts) s.0)
+    omega (arith, ap (λ (x : SeatCommits). length x.receipts) s.0)
 may_end lines (plan ∷ plans) before after (Stopped stop) (inr s) =
-    omega (arith, ap (λ (x : Sitting). length x.receipts) s.0)
+    omega (arith, ap (λ (x : SeatCommits). length x.receipts) s.0)
 
 -- it has kept no more than there are
 at_most : (all kept : ℕ) (end : SeatEnd) → MayEnd all kept end → kept ≤ all
@@ -63,19 +63,21 @@ at_most all kept (Stalled cause) ends = omega (arith, ends)
 at_most all kept (Stopped stop) ends = omega (arith, ends)
 
 -- the receipts of a seat are its own
-own_at : (seat n : ℕ) (receipts : List (List Receipt)) → AreOwn seat receipts → n < length receipts
-    → IsOwn (seat + n) 0 (slice_index_or receipts n [])
+own_at : (seat n : ℕ) (receipts : List (List Receipt)) → AreReceiptsOfAll seat receipts → n < length receipts
+    → AreReceiptsOf (seat + n) 0 (slice_index_or receipts n [])
 own_at seat n [] own lt = absurd (omega (arith, lt))
-own_at seat zero (its ∷ receipts) own lt = let e : seat ≡ seat + 0 = omega arith in subst (λ k. IsOwn k 0 its) e own.0
+own_at seat zero (its ∷ receipts) own lt = let e : seat ≡ seat
+    + 0 = omega arith in subst (λ k. AreReceiptsOf k 0 its) e own.0
 own_at seat (suc n) (its ∷ receipts) own lt =
     let e : suc seat + n ≡ seat + suc n = omega arith in
-    subst (λ k. IsOwn k 0 (slice_index_or receipts n [])) e (own_at (suc seat) n receipts own.1 (omega (arith, lt)))
+    subst (λ k. AreReceiptsOf k 0 (slice_index_or receipts n [])) e
+    (own_at (suc seat) n receipts own.1 (omega (arith, lt)))
 
 -- before the first event each seat has done nothing
-stand_first : (seats : List (List CheckedView)) (receipts : List (List Receipt)) (left : List Sitting)
+stand_first : (seats : List (List CheckedView)) (receipts : List (List Receipt)) (left : List SeatCommits)
     (order : List Event)
     → length receipts ≡ length seats → AreTheirs left receipts → IsOrder seats receipts order
-    → AllStand seats receipts (map (λ plans. untried) seats) order
+    → ArePlacedEvents seats receipts (map (λ plans. untried) seats) order
 stand_first seats receipts left order many theirs is = record {
   many = length-map seats (λ plans. untried);
   within = λ e h. subst (λ k. e.seat < k) (zero-add (length seats)) (within 0 seats receipts e
@@ -90,7 +92,8 @@ stand_first seats receipts left order many theirs is = record {
         split = refl;
         going = refl;
         its = own_order seats receipts order n it.seat.stamp is lt here it.stamps;
-        own = subst (λ k. IsOwn k 0 (slice_index_or receipts n [])) (zero-add n) (own_at 0 n receipts theirs.own here);
+        own = subst (λ k. AreReceiptsOf k 0 (slice_index_or receipts n [])) (zero-add n)
+            (own_at 0 n receipts theirs.own here);
       });
 }
 
@@ -114,7 +117,7 @@ done_of seat before plans (p ∷ left) receipts its (r ∷ later) most dropped s
 all_done : (seats : List (List CheckedView)) (receipts : List (List Receipt)) (after : List SeatProgress)
     → length receipts ≡ length seats
     → ((n : ℕ) → n < length seats → length (slice_index_or receipts n []) ≤ length (slice_index_or seats n []))
-    → AllStand seats receipts after [] → receipts ≡ map (λ (s : SeatProgress). s.receipts) after
+    → ArePlacedEvents seats receipts after [] → receipts ≡ map (λ (s : SeatProgress). s.receipts) after
 all_done seats receipts after many most all =
     same_lists receipts (map (λ (s : SeatProgress). s.receipts) after)
     (omega (arith, many, all.many, length-map after (λ (s : SeatProgress). s.receipts)))
@@ -184,14 +187,14 @@ of_some_order script outcome sound ran = record {
         (slice_index_or outcome.ends n Finished)) served.its
         (subst (λ k. MayEnd k (length served.after.receipts) (slice_index_or outcome.ends n Finished))
         (zero-add (length (slice_index_or script.seats n [])))
-        (may_end script.decls (slice_index_or script.seats n []) (untouched n) served.after
+        (may_end script.decls (slice_index_or script.seats n []) (no_commits n) served.after
         (slice_index_or outcome.ends n Finished) served.serves))
 
     comes : Turned script.seats outcome.report.receipts (opening_map script.decls) left events
         (map (λ plans. untried) script.seats)
     comes = turned script.seats outcome.report.receipts (opening_map script.decls) left events
         (map (λ plans. untried) script.seats)
-        (stand_first script.seats outcome.report.receipts (sittings_of ran.left) events ran.report.seated
+        (stand_first script.seats outcome.report.receipts (commits_of ran.left) events ran.report.seated
         ran.report.theirs one.is_order) one.is_run.runs
 
     receipts : outcome.report.receipts ≡ map (λ (s : SeatProgress). s.receipts) (last_turn script order).progress

@@ -96,7 +96,8 @@ fn run_answer<H: Threads + Wait + Sync>(
     }
 }
 
-/// Returns the answer to an action on a script's text. Fails if allocation fails.
+/// Returns the answer to an action on a script's text. `Run` blocks until the seats' threads have ended. Fails if
+/// allocation fails.
 pub(crate) fn make_answer<H: Threads + Wait + Sync>(
     rt: &H,
     alloc: Global,

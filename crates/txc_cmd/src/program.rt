@@ -10,7 +10,7 @@ use std::io::{Read, Write};
 use std::sync::Wait;
 use std::thread::Threads;
 use txc_cmd_answer::{Answer, fault_answer, no_memory_answer, usage_answer, write_answer};
-use txc_cmd_io::{WordFault, read_limited, read_words};
+use txc_cmd_io::{ArgsFault, parse_args, read_limited};
 
 /// Returns the answer to words and a reader's bytes. Fails if allocation fails.
 fn find_answer<H: Threads + Wait + Sync, R: Read>(
@@ -22,10 +22,10 @@ fn find_answer<H: Threads + Wait + Sync, R: Read>(
     ensures may { IfOk result (λ a. MayAnswer (map string_bytes words.now) (R.remaining reader.old) (answer_of a)) }
     ensures unread { action_in (map string_bytes words.now) ≡ None → reader.new ≡ reader.old }
 {
-    let action = match read_words(alloc, words) {
+    let action = match parse_args(alloc, words) {
         Ok(action) => action,
-        Err(WordFault::Usage) => return Ok(usage_answer()),
-        Err(WordFault::NoMemory) => return Err(AllocError),
+        Err(ArgsFault::Usage) => return Ok(usage_answer()),
+        Err(ArgsFault::NoMemory) => return Err(AllocError),
     };
     match read_limited(alloc, reader) {
         Ok(bytes) => make_answer(rt, alloc, action, bytes),

@@ -9,19 +9,19 @@ use Rattle.txc_cmd_script.specs.declared.fault.ScriptFault.TheVariants.{ReadFail
 use Rattle.txc_cmd_io.specs.declared.words.Action.{Action}
 use Rattle.txc_cmd_io.specs.declared.words.Action.TheVariants.{Check, Replay, Run}
 use Rattle.txc_cmd_answer.specs.Answer.{AnswersBy, Answer, faulty, IsAnsweredBy, MayAnswerBy, WroteWholeBy}
-use Rattle.txc_cmd_script.specs.Reading.{most_bytes, script_in}
+use Rattle.txc_cmd_script.specs.Reading.{max_bytes, script_in}
 use Rattle.txc_cmd_script.specs.Script.{Script}
 
-too_large : (bytes : List ℕ) → most_bytes < length bytes → script_in bytes ≡ Err TooLarge
+too_large : (bytes : List ℕ) → max_bytes < length bytes → script_in bytes ≡ Err TooLarge
 unfolding script_in
-too_large bytes long = let test : nat_lt most_bytes (length bytes) ≡ true = grind (arith, nat_tests) in rw test refl
+too_large bytes long = let test : nat_lt max_bytes (length bytes) ≡ true = grind (arith, nat_tests) in rw test refl
 
 -- what may be answered to `run` allows the fault of the script
 abbrev pub TellsFaults : (Result Script ScriptFault → Answer → Type 0) → Type 0
 TellsFaults MayRun = (fault : ScriptFault) (answer : Answer) → answer ≡ faulty fault → MayRun (Err fault) answer
 
 too_large-answer : (MayRun : Result Script ScriptFault → Answer → Type 0) (action : Action) (bytes : List ℕ)
-    (answer : Answer) → (action ≡ Run → TellsFaults MayRun) → most_bytes < length bytes → answer ≡ faulty TooLarge
+    (answer : Answer) → (action ≡ Run → TellsFaults MayRun) → max_bytes < length bytes → answer ≡ faulty TooLarge
     → AnswersBy MayRun (Some action) bytes answer
 too_large-answer MayRun Check bytes answer tells long is = rw (too_large bytes long) is
 too_large-answer MayRun Replay bytes answer tells long is = rw (too_large bytes long) is
@@ -31,7 +31,7 @@ too_large-answer MayRun Run bytes answer tells long is = rw (too_large bytes lon
 pub may_fault : (MayRun : Result Script ScriptFault → Answer → Type 0) (known : Option (List ℕ)) (answer : Answer)
     (action : Action) (fault : ScriptFault) → (action ≡ Run → TellsFaults MayRun) → answer ≡ faulty fault
     → (fault ≢ NoMemory → fault ≢ ReadFailed → fault ≡ TooLarge)
-    → (fault ≡ TooLarge → IfSome known (λ bytes. most_bytes < length bytes))
+    → (fault ≡ TooLarge → IfSome known (λ bytes. max_bytes < length bytes))
     → MayAnswerBy MayRun (Some action) known answer
 may_fault MayRun known answer action fault tells is only long = record {
   refused = λ none. cc;

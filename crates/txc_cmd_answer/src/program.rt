@@ -11,7 +11,7 @@ use crate::answer::{
 use std::alloc::{AllocError, Global};
 use std::io::{Read, Write};
 use txc_chan::Append;
-use txc_cmd_io::{Action, WordFault, read_limited, read_words, write_text};
+use txc_cmd_io::{Action, ArgsFault, parse_args, read_limited, write_text};
 use txc_cmd_script::ScriptFault;
 
 /// Returns the answer to `check` of a reader's bytes. Fails if allocation fails.
@@ -49,11 +49,11 @@ fn find_answer<A: Append, R: Read>(
         (R.remaining reader.old) (answer_of a)) }
     ensures unread { without_run (action_in (map string_bytes words.now)) ≡ None → reader.new ≡ reader.old }
 {
-    match read_words(alloc, words) {
+    match parse_args(alloc, words) {
         Ok(Action::Check) => check_reader(alloc, reader),
         Ok(Action::Replay) => replay_reader(rt, alloc, reader),
-        Ok(Action::Run) | Err(WordFault::Usage) => Ok(usage_answer()),
-        Err(WordFault::NoMemory) => Err(AllocError),
+        Ok(Action::Run) | Err(ArgsFault::Usage) => Ok(usage_answer()),
+        Err(ArgsFault::NoMemory) => Err(AllocError),
     }
 }
 

@@ -1,11 +1,11 @@
 // Reads up to a limit from any reader, and writes a text to any writer.
 ghost use Rattle.std.specs.Prelude.{◌≡◌, ◌≢◌, ◌<◌, ◌≤◌, ◌++◌, ℕ, length, take, IfOk, IfErr, IfSome, IsTrue};
 ghost use Rattle.std.specs.Io.KnownBytes.{Consumes, Appends, IsAtEnd};
-ghost use Rattle.txc_cmd_script.specs.Reading.{most_bytes};
+ghost use Rattle.txc_cmd_script.specs.Reading.{max_bytes};
 
 use std::alloc::Global;
 use std::io::{Read, Write};
-use txc_cmd_script::{MOST_BYTES, ScriptFault};
+use txc_cmd_script::{MAX_BYTES, ScriptFault};
 
 /// The maximum number of bytes of one read.
 const CHUNK: usize = 4096;
@@ -36,16 +36,16 @@ fn read_some<R: Read>(
 /// bytes than a script can have. Fails with `ReadFailed` at any error of the reader, even an interrupted read, and with
 /// `NoMemory` if allocation fails.
 pub fn read_limited<R: Read>(alloc: Global, reader: &mut R) -> Result<Vec<u8>, ScriptFault>
-    ensures ok { IfOk result (λ v. (length v.items ≤ most_bytes)
+    ensures ok { IfOk result (λ v. (length v.items ≤ max_bytes)
         × IfSome (R.remaining reader.old) (λ xs. v.items ≡ xs)) }
     ensures too_large { IfErr result (λ e. e ≡ ScriptFault.TooLarge
-        → IfSome (R.remaining reader.old) (λ xs. most_bytes < length xs)) }
+        → IfSome (R.remaining reader.old) (λ xs. max_bytes < length xs)) }
     ensures only { IfErr result (λ e. e ≢ ScriptFault.NoMemory → e ≢ ScriptFault.ReadFailed
         → e ≡ ScriptFault.TooLarge) }
 {
     let mut bytes = Vec::new(alloc);
-    while bytes.len() <= MOST_BYTES {
-        let room = MOST_BYTES + 1 - bytes.len();
+    while bytes.len() <= MAX_BYTES {
+        let room = MAX_BYTES + 1 - bytes.len();
         if read_some(reader, &mut bytes, room)? == 0 {
             return Ok(bytes);
         }

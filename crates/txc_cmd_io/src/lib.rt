@@ -7,4 +7,4 @@ mod bytes;
 mod words;
 
 pub use bytes::{read_limited, write_text};
-pub use words::{Action, WordFault, read_args, read_words};
+pub use words::{Action, ArgsFault, parse_args, read_args};

@@ -22,7 +22,7 @@ pub enum Action {
 
 /// Why words request nothing.
 #[derive(Debug, Clone, Copy, PartialEq, Eq)]
-pub enum WordFault {
+pub enum ArgsFault {
     /// The words are not a command of the program.
     Usage,
     /// Allocation failed.
@@ -80,21 +80,21 @@ fn read_action(name: &str) -> Option<Action>
 
 /// Reads the words of a command line. The first word is the program's name. Returns the action that they request. Fails
 /// with `Usage` if they are not a command, and with `NoMemory` if allocation fails.
-pub fn read_words(alloc: Global, words: &[String]) -> Result<Action, WordFault>
+pub fn parse_args(alloc: Global, words: &[String]) -> Result<Action, ArgsFault>
     ensures ok { IfOk result (λ a. action_in (map string_bytes words.now) ≡ Some a) }
-    ensures usage { IfErr result (λ e. e ≡ WordFault.Usage → action_in (map string_bytes words.now) ≡ None) }
+    ensures usage { IfErr result (λ e. e ≡ ArgsFault.Usage → action_in (map string_bytes words.now) ≡ None) }
 {
     match find_matches(alloc, words) {
         Ok(matches) => match matches.subcommand_name() {
             Some(name) => match read_action(name) {
                 Some(action) => Ok(action),
-                None => Err(WordFault::Usage),
+                None => Err(ArgsFault::Usage),
             },
-            None => Err(WordFault::Usage),
+            None => Err(ArgsFault::Usage),
         },
         Err(error) => match error.kind() {
-            ErrorKind::OutOfMemory => Err(WordFault::NoMemory),
-            _ => Err(WordFault::Usage),
+            ErrorKind::OutOfMemory => Err(ArgsFault::NoMemory),
+            _ => Err(ArgsFault::Usage),
         },
     }
 }

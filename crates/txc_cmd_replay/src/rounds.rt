@@ -6,7 +6,7 @@ ghost use Rattle.txc_cmd_report.specs.Outcome.{IsComplete, outcome_of};
 ghost use Rattle.txc_txn.specs.Opening.{opening_map};
 ghost use Rattle.txc_cmd_replay.specs.Rounds.{untried, last_round, round_from, round_to, rounds};
 ghost use Rattle.txc_chan.specs.Decls.{kinds_in};
-ghost use Rattle.txc_cmd_script.specs.Script.{Script, most_seats};
+ghost use Rattle.txc_cmd_script.specs.Script.{Script, max_seats};
 
 use crate::channels::Channels;
 use crate::seat_progress::SeatProgress;
@@ -39,7 +39,7 @@ fn run_round<R: Append>(
 ) -> Result<bool, AllocError>
     requires fits { All (All (λ plan. Fits (slice_get channels.old.kinds) plan.steps))
         (map (λ seat. seat.items) seats.now) }
-    requires seated { length seats.now ≤ most_seats }
+    requires seated { length seats.now ≤ max_seats }
     requires each { length progress.old ≡ length seats.now }
     ensures kinds { channels.new.kinds ≡ channels.old.kinds }
     ensures ok { IfOk result (λ kept. round_to (chan_in channels.new.held) progress.new kept

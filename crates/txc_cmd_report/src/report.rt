@@ -147,7 +147,7 @@ fn push_log(text: &mut String, log: &[Entry]) -> Result<(), AllocError>
 }
 
 /// Returns the word for whether a channel is closed.
-fn state_word(closed: bool) -> &'static str
+fn state_text(closed: bool) -> &'static str
     ensures { result.now ≡ state_text closed }
 {
     if closed { "closed" } else { "open" }
@@ -158,7 +158,7 @@ fn push_counts(text: &mut String, chan: usize, account: &Account) -> Result<(), 
     ensures { OnOk result (string_bytes text.new ≡ string_bytes text.old ++ counts_text chan account.now) }
 {
     let Account { kind, closed, .. } = account;
-    let state = state_word(*closed);
+    let state = state_text(*closed);
     write!(text, "chan {chan} {kind} {state}")?;
     push_log(text, account.log.as_slice())
 }

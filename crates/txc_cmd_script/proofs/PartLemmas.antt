@@ -11,9 +11,9 @@ use Rattle.txc_base.specs.declared.kind.Kind.{Kind}
 use Rattle.txc_base.specs.declared.kind.Kind.TheVariants.{Bounded, Cast, BMQueue, MCast}
 use Rattle.txc_base.specs.declared.op.Op.{Op}
 use Rattle.txc_base.specs.declared.source.Source.TheVariants.{Last}
-use Rattle.txc_base.specs.declared.limits.TheConstants.{MOST_READERS}
+use Rattle.txc_base.specs.declared.limits.TheConstants.{MAX_READERS}
 use Rattle.txc_chan.specs.declared.decl.Decl.{Decl}
-use Rattle.txc_chan.specs.Limits.{most_bound, declared_fault}
+use Rattle.txc_chan.specs.Limits.{max_bound, declared_fault}
 use Rattle.txc_cmd_script.specs.declared.fault.ScriptFault.TheVariants.{Shape}
 use Rattle.txc_cmd_script.specs.Operations.{within_most, number_in, lit_or, source_in, op_with_reader, by_reader}
 use Rattle.txc_base.specs.Kinds.{kind_named}
@@ -59,16 +59,16 @@ declared_in-kind tree name found kind text named is =
     ∙ ap (option_and_then (decl_of tree)) (sym named) ∙ ap (decl_of tree) is
 
 -- a channel within its limit
-bounded-fine : (kind : Kind) (bound readers : ℕ) → (kind ≡ Bounded) ⊎ (kind ≡ BMQueue) → bound ≤ most_bound
+bounded-fine : (kind : Kind) (bound readers : ℕ) → (kind ≡ Bounded) ⊎ (kind ≡ BMQueue) → bound ≤ max_bound
     → declared_fault kind bound readers ≡ None
 bounded-fine kind bound readers is few =
-    let within : nat_lt most_bound bound ≡ false = grind (arith, nat_tests) in
+    let within : nat_lt max_bound bound ≡ false = grind (arith, nat_tests) in
     elim is [ inl e ↦ rw (e, within) refl | inr e ↦ rw (e, within) refl ]
 
-broadcast-fine : (kind : Kind) (bound readers : ℕ) → (kind ≡ Cast) ⊎ (kind ≡ MCast) → readers ≤ MOST_READERS
+broadcast-fine : (kind : Kind) (bound readers : ℕ) → (kind ≡ Cast) ⊎ (kind ≡ MCast) → readers ≤ MAX_READERS
     → declared_fault kind bound readers ≡ None
 broadcast-fine kind bound readers is few =
-    let within : nat_lt MOST_READERS readers ≡ false = grind (arith, nat_tests) in
+    let within : nat_lt MAX_READERS readers ≡ false = grind (arith, nat_tests) in
     elim is [ inl e ↦ rw (e, within) refl | inr e ↦ rw (e, within) refl ]
 
 decl_in-fine : (chan : ℕ) (tree : Data) (decl : Decl) → Some decl ≡ declared_in tree
@@ -79,11 +79,11 @@ decl_in-fine chan tree decl found fine =
     found
 
 pub decl_in-bounded : (chan : ℕ) (tree : Data) (decl : Decl) → Some decl ≡ declared_in tree
-    → (decl.kind ≡ Bounded) ⊎ (decl.kind ≡ BMQueue) → decl.bound ≤ most_bound → Ok decl ≡ decl_in chan tree
+    → (decl.kind ≡ Bounded) ⊎ (decl.kind ≡ BMQueue) → decl.bound ≤ max_bound → Ok decl ≡ decl_in chan tree
 decl_in-bounded chan tree decl found is few =
     decl_in-fine chan tree decl found (bounded-fine decl.kind decl.bound decl.readers is few)
 
 pub decl_in-broadcast : (chan : ℕ) (tree : Data) (decl : Decl) → Some decl ≡ declared_in tree
-    → (decl.kind ≡ Cast) ⊎ (decl.kind ≡ MCast) → decl.readers ≤ MOST_READERS → Ok decl ≡ decl_in chan tree
+    → (decl.kind ≡ Cast) ⊎ (decl.kind ≡ MCast) → decl.readers ≤ MAX_READERS → Ok decl ≡ decl_in chan tree
 decl_in-broadcast chan tree decl found is few =
     decl_in-fine chan tree decl found (broadcast-fine decl.kind decl.bound decl.readers is few)

@@ -15,25 +15,25 @@ use Rattle.txc_txn_check.specs.Limits.{CheckedView}
 use Rattle.txc_chan.specs.Limits.{fault_or, first_fault}
 use Rattle.txc_cmd_script.specs.declared.fault.ScriptFault.{ScriptFault}
 use Rattle.txc_cmd_script.specs.declared.fault.ScriptFault.TheVariants.{Shape, TooLarge}
-use Rattle.txc_cmd_script.specs.Reading.{most_bytes, declared_in, unless_faulty, decl_in, decls_in, transaction_in}
+use Rattle.txc_cmd_script.specs.Reading.{max_bytes, declared_in, unless_faulty, decl_in, decls_in, transaction_in}
 use Rattle.txc_cmd_script.specs.Reading.{transactions_in, seat_in, seats_in, script_of, script_in}
 use Rattle.txc_cmd_script.specs.Steps.{or_fault, then_reads, in_order}
 use Rattle.txc_cmd_script.proofs.Orders.{onto, read_more, read_fault, read_all}
 use Rattle.txc_cmd_script.proofs.TreeLemmas.{tree_of-text}
 
 -- a text within the limit that is JSON
-pub script_in-tree : (bytes : List ℕ) (tree : Data) → length bytes ≤ most_bytes → IsUtf8 bytes → read bytes ≡ Some tree
+pub script_in-tree : (bytes : List ℕ) (tree : Data) → length bytes ≤ max_bytes → IsUtf8 bytes → read bytes ≡ Some tree
     → script_in bytes ≡ script_of tree
 unfolding script_in
 script_in-tree bytes tree small text is =
-    let within : nat_lt most_bytes (length bytes) ≡ false = grind (arith, nat_tests) in
+    let within : nat_lt max_bytes (length bytes) ≡ false = grind (arith, nat_tests) in
     rw (within, tree_of-text bytes text, is) refl
 
 -- a text past the limit
-pub script_in-large : (bytes : List ℕ) → most_bytes < length bytes → script_in bytes ≡ Err TooLarge
+pub script_in-large : (bytes : List ℕ) → max_bytes < length bytes → script_in bytes ≡ Err TooLarge
 unfolding script_in
 script_in-large bytes large =
-    let past : nat_lt most_bytes (length bytes) ≡ true = grind (arith, nat_tests) in
+    let past : nat_lt max_bytes (length bytes) ≡ true = grind (arith, nat_tests) in
     rw past refl
 
 -- a declaration that is taken where this was found has no fault

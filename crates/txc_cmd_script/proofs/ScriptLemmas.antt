@@ -12,7 +12,7 @@ use Rattle.txc_txn_check.specs.Limits.{CheckedView}
 use Rattle.txc_chan.specs.Limits.{first_fault}
 use Rattle.txc_txn_check.specs.Steps.{Fits}
 use Rattle.txc_chan.specs.Decls.{kinds_in}
-use Rattle.txc_cmd_script.specs.Script.{IsSound, most_channels, most_seats}
+use Rattle.txc_cmd_script.specs.Script.{IsSound, max_channels, max_seats}
 use Rattle.txc_cmd_script.specs.Steps.{mapped}
 use Rattle.txc_cmd_script.specs.Tree.{key_count, whole_at, listed_at}
 use Rattle.txc_cmd_script.specs.declared.fault.ScriptFault.{ScriptFault}
@@ -21,17 +21,17 @@ use Rattle.txc_cmd_script.specs.Reading.{decls_in, seats_in, with_seats, script_
 use Rattle.txc_cmd_script.specs.Reading.{script_of}
 
 -- seats within the limits, on channels that were read
-with_seats-seated : (vs : List Value) (decls : List Decl) → (length vs == 0) ≡ false → length vs ≤ most_seats
+with_seats-seated : (vs : List Value) (decls : List Decl) → (length vs == 0) ≡ false → length vs ≤ max_seats
     → with_seats (map view vs) decls ≡ mapped (λ plans. record { decls = decls; seats = plans })
     (seats_in (kinds_in decls) 0 (map view vs))
 with_seats-seated vs decls some few =
     let same : length (map view vs) ≡ length vs = length-map vs view in
     let none : nat_eq (length (map view vs)) 0 ≡ false = ap (λ n. nat_eq n 0) same ∙ some in
-    let within : nat_lt most_seats (length vs) ≡ false = grind (arith, nat_tests) in
+    let within : nat_lt max_seats (length vs) ≡ false = grind (arith, nat_tests) in
     rw (none, same, within) refl
 
 pub with_seats-ok : (vs : List Value) (decls : List Decl) (kinds : List Kind) (plans : List (List CheckedView))
-    → (length vs == 0) ≡ false → length vs ≤ most_seats → kinds ≡ kinds_in decls
+    → (length vs == 0) ≡ false → length vs ≤ max_seats → kinds ≡ kinds_in decls
     → seats_in kinds 0 (map view vs) ≡ Ok plans
     → with_seats (map view vs) decls ≡ Ok (record { decls = decls; seats = plans })
 with_seats-ok vs decls kinds plans some few are read =
@@ -40,7 +40,7 @@ with_seats-ok vs decls kinds plans some few are read =
     ∙ read)
 
 pub with_seats-err : (vs : List Value) (decls : List Decl) (kinds : List Kind) (e : ScriptFault)
-    → (length vs == 0) ≡ false → length vs ≤ most_seats → kinds ≡ kinds_in decls
+    → (length vs == 0) ≡ false → length vs ≤ max_seats → kinds ≡ kinds_in decls
     → seats_in kinds 0 (map view vs) ≡ Err e → with_seats (map view vs) decls ≡ Err e
 with_seats-err vs decls kinds e some few are read =
     with_seats-seated vs decls some few
@@ -49,8 +49,8 @@ with_seats-err vs decls kinds e some few are read =
 
 -- such a script is sound
 pub sound : (decls : List Decl) (kinds : List Kind) (seats : List (List CheckedView)) (n : ℕ)
-    → length decls ≤ most_channels
-    → first_fault decls ≡ None → (n == 0) ≡ false → n ≤ most_seats
+    → length decls ≤ max_channels
+    → first_fault decls ≡ None → (n == 0) ≡ false → n ≤ max_seats
     → length seats ≡ n → kinds ≡ kinds_in decls → All (All (λ plan. Fits (slice_get kinds) plan.steps)) seats
     → IsSound (record { decls = decls; seats = seats })
 sound decls kinds seats n few made some within all are fit = record {
@@ -62,17 +62,17 @@ sound decls kinds seats n few made some within all are fit = record {
 }
 
 -- channels within the limits, all of which were read
-pub script_from-read : (vs : List Value) (seats : List Data) (decls : List Decl) → length vs ≤ most_channels
+pub script_from-read : (vs : List Value) (seats : List Data) (decls : List Decl) → length vs ≤ max_channels
     → decls_in 0 (map view vs) ≡ Ok decls
     → script_from (map view vs) seats ≡ with_seats seats decls
 script_from-read vs seats decls few read =
-    let within : nat_lt most_channels (length vs) ≡ false = grind (arith, nat_tests) in
+    let within : nat_lt max_channels (length vs) ≡ false = grind (arith, nat_tests) in
     rw (length-map vs view, within, read) refl
 
-pub script_from-err : (vs : List Value) (seats : List Data) (e : ScriptFault) → length vs ≤ most_channels
+pub script_from-err : (vs : List Value) (seats : List Data) (e : ScriptFault) → length vs ≤ max_channels
     → decls_in 0 (map view vs) ≡ Err e → script_from (map view vs) seats ≡ Err e
 script_from-err vs seats e few read =
-    let within : nat_lt most_channels (length vs) ≡ false = grind (arith, nat_tests) in
+    let within : nat_lt max_channels (length vs) ≡ false = grind (arith, nat_tests) in
     rw (length-map vs view, within, read) refl
 
 -- a tree of three keys whose channels and seats are these lists

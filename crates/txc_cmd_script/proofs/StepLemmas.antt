@@ -14,59 +14,60 @@ use Rattle.serde_json.specs.declared.value.Value.{Value, Array}
 use Rattle.txc_base.specs.declared.op.Op.{Op}
 use Rattle.txc_txn_check.specs.declared.step.Step.{Step}
 use Rattle.txc_txn_check.specs.declared.step.Step.TheVariants.{Do, Or, Retry}
-use Rattle.txc_cmd_script.specs.declared.steps.Unread.{Unread}
-use Rattle.txc_cmd_script.specs.declared.steps.Unread.TheVariants.{Shape, NoMemory}
-use Rattle.txc_cmd_script.specs.declared.verb.Verb.{Verb}
-use Rattle.txc_cmd_script.specs.declared.verb.Verb.TheVariants as verb
+use Rattle.txc_cmd_script.specs.declared.steps.StepFault.{StepFault}
+use Rattle.txc_cmd_script.specs.declared.steps.StepFault.TheVariants.{Shape, NoMemory}
+use Rattle.txc_cmd_script.specs.declared.step_name.StepName.{StepName}
+use Rattle.txc_cmd_script.specs.declared.step_name.StepName.TheVariants as step_name
 use Rattle.txc_cmd_script.specs.Operations.{op_of}
 use Rattle.txc_cmd_script.specs.Tree.{list_of_items}
-use Rattle.txc_cmd_script.specs.Steps.{are_lists, or_fault, mapped, then_reads, in_order, step_alone, step_by}
-use Rattle.txc_cmd_script.specs.Steps.{verb_named}
+use Rattle.txc_cmd_script.specs.Steps.{are_lists, or_fault, mapped, then_reads, in_order, simple_step, step_by}
+use Rattle.txc_cmd_script.specs.Steps.{step_name_in}
 use Rattle.txc_cmd_script.specs.Steps.{step_named, step_in_tree, step_in_items, steps_in_tree, steps_in_items}
 use Rattle.txc_cmd_script.specs.Steps.{branches_in_items}
 use Rattle.txc_cmd_script.proofs.Orders.{onto, drop_here, read_more, read_fault, read_all}
 use Rattle.txc_cmd_script.proofs.TreeLemmas.{list_of_items-items_of}
 
--- a verb without branches that is not `retry` is that of an operation
-step_alone-operation : (v : Verb) (elements : Items) → v ≢ verb.Retry
-    → step_alone v elements ≡ mapped Do (or_fault Shape (op_of v (list_of_items elements)))
-step_alone-operation verb.Write elements no_retry = refl
-step_alone-operation verb.TryWrite elements no_retry = refl
-step_alone-operation verb.Read elements no_retry = refl
-step_alone-operation verb.TryRead elements no_retry = refl
-step_alone-operation verb.Peek elements no_retry = refl
-step_alone-operation verb.TryPeek elements no_retry = refl
-step_alone-operation verb.PutBack elements no_retry = refl
-step_alone-operation verb.Close elements no_retry = refl
-step_alone-operation verb.IsClosed elements no_retry = refl
-step_alone-operation verb.IsEmpty elements no_retry = refl
-step_alone-operation verb.IsFull elements no_retry = refl
-step_alone-operation verb.Dup elements no_retry = refl
-step_alone-operation verb.Clone elements no_retry = refl
-step_alone-operation verb.Flush elements no_retry = refl
-step_alone-operation verb.Length elements no_retry = refl
-step_alone-operation verb.Or elements no_retry = refl
-step_alone-operation verb.Retry elements no_retry = absurd (no_retry refl)
+-- a step name without branches that is not `retry` is that of an operation
+simple_step-operation : (v : StepName) (elements : Items) → v ≢ step_name.Retry
+    → simple_step v elements ≡ mapped Do (or_fault Shape (op_of v (list_of_items elements)))
+simple_step-operation step_name.Write elements no_retry = refl
+simple_step-operation step_name.TryWrite elements no_retry = refl
+simple_step-operation step_name.Read elements no_retry = refl
+simple_step-operation step_name.TryRead elements no_retry = refl
+simple_step-operation step_name.Peek elements no_retry = refl
+simple_step-operation step_name.TryPeek elements no_retry = refl
+simple_step-operation step_name.PutBack elements no_retry = refl
+simple_step-operation step_name.Close elements no_retry = refl
+simple_step-operation step_name.IsClosed elements no_retry = refl
+simple_step-operation step_name.IsEmpty elements no_retry = refl
+simple_step-operation step_name.IsFull elements no_retry = refl
+simple_step-operation step_name.Dup elements no_retry = refl
+simple_step-operation step_name.Clone elements no_retry = refl
+simple_step-operation step_name.Flush elements no_retry = refl
+simple_step-operation step_name.Length elements no_retry = refl
+simple_step-operation step_name.Or elements no_retry = refl
+simple_step-operation step_name.Retry elements no_retry = absurd (no_retry refl)
 
 -- an operation that is said, or none
-pub step_alone-said : (v : Verb) (vs : List Value) (said : Option Op) → v ≢ verb.Retry → said ≡ op_of v (map view vs)
-    → mapped Do (or_fault Shape said) ≡ step_alone v (items_view vs)
-step_alone-said v vs said no_retry is =
+pub simple_step-said : (v : StepName) (vs : List Value) (said : Option Op) → v ≢ step_name.Retry → said
+    ≡ op_of v (map view vs)
+    → mapped Do (or_fault Shape said) ≡ simple_step v (items_view vs)
+simple_step-said v vs said no_retry is =
     ap (λ o. mapped Do (or_fault Shape o)) is
     ∙ sym (ap (λ l. mapped Do (or_fault Shape (op_of v l))) (list_of_items-items_of (map view vs)))
-    ∙ sym (step_alone-operation v (items_view vs) no_retry)
+    ∙ sym (simple_step-operation v (items_view vs) no_retry)
 
 -- `retry` alone
-pub retry-alone : (v : Verb) (vs : List Value) → v ≡ verb.Retry → nat_eq (length vs) 0 ≡ true
-    → Ok Retry ≡ step_alone v (items_view vs)
-retry-alone v [] is none = sym (ap (λ w. step_alone w (items_view [])) is)
+pub retry-alone : (v : StepName) (vs : List Value) → v ≡ step_name.Retry → nat_eq (length vs) 0 ≡ true
+    → Ok Retry ≡ simple_step v (items_view vs)
+retry-alone v [] is none = sym (ap (λ w. simple_step w (items_view [])) is)
 retry-alone v (tree ∷ vs) is none = absurd (omega (arith, eqb-true _ _ none))
 
 -- `retry` with more elements
-pub retry-more : (v : Verb) (vs : List Value) → v ≡ verb.Retry → nat_eq (length vs) 0 ≡ false
-    → Err Shape ≡ step_alone v (items_view vs)
+pub retry-more : (v : StepName) (vs : List Value) → v ≡ step_name.Retry → nat_eq (length vs) 0 ≡ false
+    → Err Shape ≡ simple_step v (items_view vs)
 retry-more v [] is some = absurd (cc)
-retry-more v (tree ∷ vs) is some = sym (ap (λ w. step_alone w (items_view (tree ∷ vs))) is)
+retry-more v (tree ∷ vs) is some = sym (ap (λ w. simple_step w (items_view (tree ∷ vs))) is)
 
 -- a list in front changes nothing
 are_lists-list : (d : Data) (rest : Items) → is_some (as_array d) ≡ true → are_lists (item d rest) ≡ are_lists rest
@@ -124,19 +125,19 @@ step_in_tree-elements tree elements vs name list is some first =
     ∙ ap (λ l. step_in_items (items_view l)) (sym is)
     ∙ ap (λ l. step_in_items (items_view l)) (elements_split vs name some first)
 
--- a step whose first element names no verb
-pub step_in_tree-unnamed : (tree : Value) (elements : Vec Value Global) (vs : List Value) (name : Value) (e : Unread)
+-- a step whose first element names no step name
+pub step_in_tree-unnamed : (tree : Value) (elements : Vec Value Global) (vs : List Value) (name : Value) (e : StepFault)
     → tree ≡ Array elements → vs ≡ elements.items → 1 ≤ length vs
-    → name ≡ slice_index_or vs 0 name → Err e ≡ verb_named (as_str (view name)) → step_in_tree (view tree) ≡ Err e
+    → name ≡ slice_index_or vs 0 name → Err e ≡ step_name_in (as_str (view name)) → step_in_tree (view tree) ≡ Err e
 step_in_tree-unnamed tree elements vs name e list is some first named =
     let rest = items_view (take (length vs - 1) (drop 1 vs)) in
     step_in_tree-elements tree elements vs name list is some first
     ∙ ap (λ n. then_reads n (λ v. step_by v rest (branches_in_items rest))) (sym named)
 
--- a step whose first element names this verb
-step_in_tree-named : (tree : Value) (elements : Vec Value Global) (vs : List Value) (name : Value) (v : Verb)
+-- a step whose first element names this step name
+step_in_tree-named : (tree : Value) (elements : Vec Value Global) (vs : List Value) (name : Value) (v : StepName)
     → tree ≡ Array elements → vs ≡ elements.items → 1 ≤ length vs
-    → name ≡ slice_index_or vs 0 name → Ok v ≡ verb_named (as_str (view name)) → step_in_tree (view tree)
+    → name ≡ slice_index_or vs 0 name → Ok v ≡ step_name_in (as_str (view name)) → step_in_tree (view tree)
     ≡ step_by v (items_view (take (length vs - 1) (drop 1 vs)))
     (branches_in_items (items_view (take (length vs - 1) (drop 1 vs))))
 step_in_tree-named tree elements vs name v list is some first named =
@@ -145,9 +146,9 @@ step_in_tree-named tree elements vs name v list is some first named =
     ∙ ap (λ n. then_reads n (λ w. step_by w rest (branches_in_items rest))) (sym named)
 
 -- a step with branches
-pub step_in_tree-or : (tree : Value) (elements : Vec Value Global) (vs : List Value) (name : Value) (v : Verb)
+pub step_in_tree-or : (tree : Value) (elements : Vec Value Global) (vs : List Value) (name : Value) (v : StepName)
     → tree ≡ Array elements → vs ≡ elements.items → 1 ≤ length vs
-    → name ≡ slice_index_or vs 0 name → Ok v ≡ verb_named (as_str (view name)) → v ≡ verb.Or
+    → name ≡ slice_index_or vs 0 name → Ok v ≡ step_name_in (as_str (view name)) → v ≡ step_name.Or
     → true ≡ are_lists (items_view (take (length vs - 1) (drop 1 vs)))
     → step_in_tree (view tree) ≡ mapped Or (branches_in_items (items_view (take (length vs - 1) (drop 1 vs))))
 step_in_tree-or tree elements vs name v list is some first named or lists =
@@ -156,48 +157,50 @@ step_in_tree-or tree elements vs name v list is some first named or lists =
     ∙ ap (λ w. step_by w rest (branches_in_items rest)) or
     ∙ ap (λ b. if b then mapped Or (branches_in_items rest) else Err Shape) (sym lists)
 
--- a verb other than `or` has no branches
-step_by-alone : (v : Verb) (elements : Items) (branches : Result (List (List Step)) Unread) → v ≢ verb.Or
-    → step_by v elements branches ≡ step_alone v elements
-step_by-alone verb.Write elements branches no_or = refl
-step_by-alone verb.TryWrite elements branches no_or = refl
-step_by-alone verb.Read elements branches no_or = refl
-step_by-alone verb.TryRead elements branches no_or = refl
-step_by-alone verb.Peek elements branches no_or = refl
-step_by-alone verb.TryPeek elements branches no_or = refl
-step_by-alone verb.PutBack elements branches no_or = refl
-step_by-alone verb.Close elements branches no_or = refl
-step_by-alone verb.IsClosed elements branches no_or = refl
-step_by-alone verb.IsEmpty elements branches no_or = refl
-step_by-alone verb.IsFull elements branches no_or = refl
-step_by-alone verb.Dup elements branches no_or = refl
-step_by-alone verb.Clone elements branches no_or = refl
-step_by-alone verb.Flush elements branches no_or = refl
-step_by-alone verb.Length elements branches no_or = refl
-step_by-alone verb.Or elements branches no_or = absurd (no_or refl)
-step_by-alone verb.Retry elements branches no_or = refl
+-- a step name other than `or` has no branches
+step_by-alone : (v : StepName) (elements : Items) (branches : Result (List (List Step)) StepFault) → v ≢ step_name.Or
+    → step_by v elements branches ≡ simple_step v elements
+step_by-alone step_name.Write elements branches no_or = refl
+step_by-alone step_name.TryWrite elements branches no_or = refl
+step_by-alone step_name.Read elements branches no_or = refl
+step_by-alone step_name.TryRead elements branches no_or = refl
+step_by-alone step_name.Peek elements branches no_or = refl
+step_by-alone step_name.TryPeek elements branches no_or = refl
+step_by-alone step_name.PutBack elements branches no_or = refl
+step_by-alone step_name.Close elements branches no_or = refl
+step_by-alone step_name.IsClosed elements branches no_or = refl
+step_by-alone step_name.IsEmpty elements branches no_or = refl
+step_by-alone step_name.IsFull elements branches no_or = refl
+step_by-alone step_name.Dup elements branches no_or = refl
+step_by-alone step_name.Clone elements branches no_or = refl
+step_by-alone step_name.Flush elements branches no_or = refl
+step_by-alone step_name.Length elements branches no_or = refl
+step_by-alone step_name.Or elements branches no_or = absurd (no_or refl)
+step_by-alone step_name.Retry elements branches no_or = refl
 
 -- a step without branches
-pub step_in_tree-alone : (tree : Value) (elements : Vec Value Global) (vs : List Value) (name : Value) (v : Verb)
+pub step_in_tree-alone : (tree : Value) (elements : Vec Value Global) (vs : List Value) (name : Value) (v : StepName)
     → tree ≡ Array elements → vs ≡ elements.items → 1 ≤ length vs
-    → name ≡ slice_index_or vs 0 name → Ok v ≡ verb_named (as_str (view name)) → v ≢ verb.Or
-    → step_in_tree (view tree) ≡ step_alone v (items_view (take (length vs - 1) (drop 1 vs)))
+    → name ≡ slice_index_or vs 0 name → Ok v ≡ step_name_in (as_str (view name)) → v ≢ step_name.Or
+    → step_in_tree (view tree) ≡ simple_step v (items_view (take (length vs - 1) (drop 1 vs)))
 step_in_tree-alone tree elements vs name v list is some first named no_or =
     let rest = items_view (take (length vs - 1) (drop 1 vs)) in
     step_in_tree-named tree elements vs name v list is some first named
     ∙ step_by-alone v rest (branches_in_items rest) no_or
 
 -- what a step is, as an answer
-pub ok_is : (whole found : Result Step Unread) → whole ≡ found → IfOk found (λ step. whole ≡ Ok step)
+pub ok_is : (whole found : Result Step StepFault) → whole ≡ found → IfOk found (λ step. whole ≡ Ok step)
 ok_is whole (Ok step) is = is
 ok_is whole (Err why) is = tt
 
-pub err_is : (whole found : Result Step Unread) → whole ≡ found → IfErr found (λ why. why ≢ NoMemory → whole ≡ Err why)
+pub err_is : (whole found : Result Step StepFault) → whole ≡ found
+    → IfErr found (λ why. why ≢ NoMemory → whole ≡ Err why)
 err_is whole (Ok step) is = tt
 err_is whole (Err why) is = λ given. is
 
 -- one more step was read, or not, or none is left
-pub steps_more : (vs : List Value) (i : ℕ) (v : Value) (xs : List Step) (x : Step) (whole : Result (List Step) Unread)
+pub steps_more : (vs : List Value) (i : ℕ) (v : Value) (xs : List Step) (x : Step)
+    (whole : Result (List Step) StepFault)
     → i < length vs → v ≡ slice_index_or vs i v
     → whole ≡ onto xs (steps_in_items (items_view (drop i vs))) → step_in_tree (view v) ≡ Ok x
     → whole ≡ onto (xs ++ x ∷ []) (steps_in_items (items_view (drop (i + 1) vs)))
@@ -205,14 +208,14 @@ steps_more vs i v xs x whole lt is h one =
     read_more (λ l. steps_in_items (items_view l)) (λ l. steps_in_items (items_view l)) vs i v xs x whole lt is h
     (λ rest. ap (λ s. in_order s (steps_in_items (items_view rest))) one)
 
-pub steps_fault : (vs : List Value) (i : ℕ) (v : Value) (xs : List Step) (e : Unread)
-    (whole : Result (List Step) Unread) → i < length vs → v ≡ slice_index_or vs i v
+pub steps_fault : (vs : List Value) (i : ℕ) (v : Value) (xs : List Step) (e : StepFault)
+    (whole : Result (List Step) StepFault) → i < length vs → v ≡ slice_index_or vs i v
     → whole ≡ onto xs (steps_in_items (items_view (drop i vs))) → step_in_tree (view v) ≡ Err e → whole ≡ Err e
 steps_fault vs i v xs e whole lt is h one =
     read_fault (λ l. steps_in_items (items_view l)) vs i v xs e whole lt is h
     (λ rest. ap (λ s. in_order s (steps_in_items (items_view rest))) one)
 
-pub steps_all : (vs : List Value) (i : ℕ) (xs : List Step) (whole : Result (List Step) Unread) → length vs ≤ i
+pub steps_all : (vs : List Value) (i : ℕ) (xs : List Step) (whole : Result (List Step) StepFault) → length vs ≤ i
     → whole ≡ onto xs (steps_in_items (items_view (drop i vs))) → whole ≡ Ok xs
 steps_all vs i xs whole past h = read_all (λ l. steps_in_items (items_view l)) vs i xs whole past h refl
 
@@ -224,21 +227,21 @@ steps_in_tree-elements tree elements vs list is = ap (λ v. steps_in_tree (view 
 
 -- one more branch was read, or not, or none is left
 pub branches_more : (vs : List Value) (i : ℕ) (v : Value) (xs : List (List Step)) (x : List Step)
-    (whole : Result (List (List Step)) Unread) → i < length vs → v ≡ slice_index_or vs i v
+    (whole : Result (List (List Step)) StepFault) → i < length vs → v ≡ slice_index_or vs i v
     → whole ≡ onto xs (branches_in_items (items_view (drop i vs))) → steps_in_tree (view v) ≡ Ok x
     → whole ≡ onto (xs ++ x ∷ []) (branches_in_items (items_view (drop (i + 1) vs)))
 branches_more vs i v xs x whole lt is h one =
     read_more (λ l. branches_in_items (items_view l)) (λ l. branches_in_items (items_view l)) vs i v xs x whole lt is h
     (λ rest. ap (λ s. in_order s (branches_in_items (items_view rest))) one)
 
-pub branches_fault : (vs : List Value) (i : ℕ) (v : Value) (xs : List (List Step)) (e : Unread)
-    (whole : Result (List (List Step)) Unread) → i < length vs → v ≡ slice_index_or vs i v
+pub branches_fault : (vs : List Value) (i : ℕ) (v : Value) (xs : List (List Step)) (e : StepFault)
+    (whole : Result (List (List Step)) StepFault) → i < length vs → v ≡ slice_index_or vs i v
     → whole ≡ onto xs (branches_in_items (items_view (drop i vs))) → steps_in_tree (view v) ≡ Err e → whole ≡ Err e
 branches_fault vs i v xs e whole lt is h one =
     read_fault (λ l. branches_in_items (items_view l)) vs i v xs e whole lt is h
     (λ rest. ap (λ s. in_order s (branches_in_items (items_view rest))) one)
 
-pub branches_all : (vs : List Value) (i : ℕ) (xs : List (List Step)) (whole : Result (List (List Step)) Unread)
+pub branches_all : (vs : List Value) (i : ℕ) (xs : List (List Step)) (whole : Result (List (List Step)) StepFault)
     → length vs ≤ i → whole ≡ onto xs (branches_in_items (items_view (drop i vs)))
     → whole ≡ Ok xs
 branches_all vs i xs whole past h = read_all (λ l. branches_in_items (items_view l)) vs i xs whole past h refl

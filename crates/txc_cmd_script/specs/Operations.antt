@@ -7,38 +7,38 @@ use Rattle.txc_base.specs.declared.op.Op.{Op}
 use Rattle.txc_base.specs.declared.op.Op.TheVariants as op
 use Rattle.txc_base.specs.declared.source.Source.{Source}
 use Rattle.txc_base.specs.declared.source.Source.TheVariants.{Lit, Last}
-use Rattle.txc_cmd_script.specs.declared.verb.Verb.{Verb}
-use Rattle.txc_cmd_script.specs.declared.verb.Verb.TheVariants as verb
+use Rattle.txc_cmd_script.specs.declared.step_name.StepName.{StepName}
+use Rattle.txc_cmd_script.specs.declared.step_name.StepName.TheVariants as step_name
 use Rattle.txc_cmd_script.specs.Tree.{whole, is_text}
 
--- the verb of a step's first element
-abbrev pub verb_of : List ℕ → Option Verb
-verb_of text = if pointwise nat_eq text (codes "write") then Some verb.Write
-    else if pointwise nat_eq text (codes "try-write") then Some verb.TryWrite
-    else if pointwise nat_eq text (codes "read") then Some verb.Read
-    else if pointwise nat_eq text (codes "try-read") then Some verb.TryRead
-    else if pointwise nat_eq text (codes "peek") then Some verb.Peek
-    else if pointwise nat_eq text (codes "try-peek") then Some verb.TryPeek
-    else if pointwise nat_eq text (codes "put-back") then Some verb.PutBack
-    else if pointwise nat_eq text (codes "close") then Some verb.Close
-    else if pointwise nat_eq text (codes "is-closed") then Some verb.IsClosed
-    else if pointwise nat_eq text (codes "is-empty") then Some verb.IsEmpty
-    else if pointwise nat_eq text (codes "is-full") then Some verb.IsFull
-    else if pointwise nat_eq text (codes "dup") then Some verb.Dup
-    else if pointwise nat_eq text (codes "clone") then Some verb.Clone
-    else if pointwise nat_eq text (codes "flush") then Some verb.Flush
-    else if pointwise nat_eq text (codes "length") then Some verb.Length
-    else if pointwise nat_eq text (codes "or") then Some verb.Or
-    else if pointwise nat_eq text (codes "retry") then Some verb.Retry
+-- the step name of a step's first element
+abbrev pub step_name_of : List ℕ → Option StepName
+step_name_of text = if pointwise nat_eq text (codes "write") then Some step_name.Write
+    else if pointwise nat_eq text (codes "try-write") then Some step_name.TryWrite
+    else if pointwise nat_eq text (codes "read") then Some step_name.Read
+    else if pointwise nat_eq text (codes "try-read") then Some step_name.TryRead
+    else if pointwise nat_eq text (codes "peek") then Some step_name.Peek
+    else if pointwise nat_eq text (codes "try-peek") then Some step_name.TryPeek
+    else if pointwise nat_eq text (codes "put-back") then Some step_name.PutBack
+    else if pointwise nat_eq text (codes "close") then Some step_name.Close
+    else if pointwise nat_eq text (codes "is-closed") then Some step_name.IsClosed
+    else if pointwise nat_eq text (codes "is-empty") then Some step_name.IsEmpty
+    else if pointwise nat_eq text (codes "is-full") then Some step_name.IsFull
+    else if pointwise nat_eq text (codes "dup") then Some step_name.Dup
+    else if pointwise nat_eq text (codes "clone") then Some step_name.Clone
+    else if pointwise nat_eq text (codes "flush") then Some step_name.Flush
+    else if pointwise nat_eq text (codes "length") then Some step_name.Length
+    else if pointwise nat_eq text (codes "or") then Some step_name.Or
+    else if pointwise nat_eq text (codes "retry") then Some step_name.Retry
     else None
 
 -- the largest number of a channel or a reader
-abbrev pub most_number : ℕ
-most_number = 65535
+abbrev pub max_number : ℕ
+max_number = 65535
 
 -- this number, if a channel or a reader can have it
 abbrev pub within_most : ℕ → Option ℕ
-within_most n = if nat_le n most_number then Some n else None
+within_most n = if nat_le n max_number then Some n else None
 
 -- the number of a channel or a reader
 abbrev pub number_in : Data → Option ℕ
@@ -90,22 +90,22 @@ put_back_of (chan ∷ reader ∷ body ∷ []) =
     option_and_then (λ r. op_with_body (λ c. op.PutBack c r) (number_in chan) (source_in body)) (number_in reader)
 put_back_of (chan ∷ reader ∷ body ∷ more ∷ rest) = None
 
--- the operation of a verb and the elements after it; none for `or` and `retry`, which are not operations
-abbrev pub op_of : Verb → List Data → Option Op
-op_of verb.Write elements = of_body op.Write elements
-op_of verb.TryWrite elements = of_body op.TryWrite elements
-op_of verb.Read elements = by_reader op.Read elements
-op_of verb.TryRead elements = by_reader op.TryRead elements
-op_of verb.Peek elements = by_reader op.Peek elements
-op_of verb.TryPeek elements = by_reader op.TryPeek elements
-op_of verb.PutBack elements = put_back_of elements
-op_of verb.Close elements = on_chan op.Close elements
-op_of verb.IsClosed elements = on_chan op.IsClosed elements
-op_of verb.IsEmpty elements = by_reader op.IsEmpty elements
-op_of verb.IsFull elements = on_chan op.IsFull elements
-op_of verb.Dup elements = on_chan op.Dup elements
-op_of verb.Clone elements = by_reader op.CloneReader elements
-op_of verb.Flush elements = by_reader op.Flush elements
-op_of verb.Length elements = on_chan op.Length elements
-op_of verb.Or elements = None
-op_of verb.Retry elements = None
+-- the operation of a step name and the elements after it; none for `or` and `retry`, which are not operations
+abbrev pub op_of : StepName → List Data → Option Op
+op_of step_name.Write elements = of_body op.Write elements
+op_of step_name.TryWrite elements = of_body op.TryWrite elements
+op_of step_name.Read elements = by_reader op.Read elements
+op_of step_name.TryRead elements = by_reader op.TryRead elements
+op_of step_name.Peek elements = by_reader op.Peek elements
+op_of step_name.TryPeek elements = by_reader op.TryPeek elements
+op_of step_name.PutBack elements = put_back_of elements
+op_of step_name.Close elements = on_chan op.Close elements
+op_of step_name.IsClosed elements = on_chan op.IsClosed elements
+op_of step_name.IsEmpty elements = by_reader op.IsEmpty elements
+op_of step_name.IsFull elements = on_chan op.IsFull elements
+op_of step_name.Dup elements = on_chan op.Dup elements
+op_of step_name.Clone elements = by_reader op.CloneReader elements
+op_of step_name.Flush elements = by_reader op.Flush elements
+op_of step_name.Length elements = on_chan op.Length elements
+op_of step_name.Or elements = None
+op_of step_name.Retry elements = None

@@ -18,17 +18,17 @@ use Rattle.txc_cmd_script.specs.declared.fault.ScriptFault.TheVariants.{TooLarge
 use Rattle.txc_cmd_script.specs.declared.fault.ScriptFault.TheVariants.{TooManyChannels}
 use Rattle.txc_cmd_script.specs.declared.fault.ScriptFault.TheVariants.{BadSeatCount, BoundTooLarge, TooManyReaders}
 use Rattle.txc_cmd_script.specs.declared.fault.ScriptFault.TheVariants.{UnknownOp, Txn, NoMemory}
-use Rattle.txc_cmd_script.specs.declared.read.TheConstants.{MOST_BYTES}
-use Rattle.txc_cmd_script.specs.declared.steps.Unread.{Unread}
-use Rattle.txc_cmd_script.specs.declared.steps.Unread.TheVariants as unread
+use Rattle.txc_cmd_script.specs.declared.read.TheConstants.{MAX_BYTES}
+use Rattle.txc_cmd_script.specs.declared.steps.StepFault.{StepFault}
+use Rattle.txc_cmd_script.specs.declared.steps.StepFault.TheVariants as step_fault
 use Rattle.txc_chan.specs.Decls.{kinds_in}
-use Rattle.txc_cmd_script.specs.Script.{Script, most_channels, most_seats}
+use Rattle.txc_cmd_script.specs.Script.{Script, max_channels, max_seats}
 use Rattle.txc_cmd_script.specs.Steps.{or_fault, mapped, then_reads, in_order, steps_in_tree}
 use Rattle.txc_cmd_script.specs.Tree.{tree_of, key_count, listed, whole_at, listed_at}
 
 -- the maximum size of a script, in bytes
-abbrev pub most_bytes : ℕ
-most_bytes = MOST_BYTES
+abbrev pub max_bytes : ℕ
+max_bytes = MAX_BYTES
 
 -- the text at a key
 abbrev pub text_at : List ℕ → Data → Option (List ℕ)
@@ -85,15 +85,15 @@ decls_in chan [] = Ok []
 decls_in chan (tree ∷ trees) = in_order (decl_in chan tree) (decls_in (suc chan) trees)
 
 -- why steps are not read, as a fault of this transaction of this seat
-abbrev pub unread_fault : ℕ → ℕ → Unread → ScriptFault
-unread_fault seat txn unread.Shape = Shape
-unread_fault seat txn unread.UnknownOp = UnknownOp seat txn
-unread_fault seat txn unread.NoMemory = NoMemory
+abbrev pub step_fault_in : ℕ → ℕ → StepFault → ScriptFault
+step_fault_in seat txn step_fault.Shape = Shape
+step_fault_in seat txn step_fault.UnknownOp = UnknownOp seat txn
+step_fault_in seat txn step_fault.NoMemory = NoMemory
 
 -- what was read, or the fault of this transaction of this seat
-abbrev pub or_unread : {X : Type 0} → ℕ → ℕ → Result X Unread → Result X ScriptFault
-or_unread seat txn (Ok x) = Ok x
-or_unread seat txn (Err why) = Err (unread_fault seat txn why)
+abbrev pub or_step_fault : {X : Type 0} → ℕ → ℕ → Result X StepFault → Result X ScriptFault
+or_step_fault seat txn (Ok x) = Ok x
+or_step_fault seat txn (Err why) = Err (step_fault_in seat txn why)
 
 -- steps after the walk over them, with the channels that they name
 abbrev pub checked_as : ℕ → ℕ → List Step → Walked → Result CheckedView ScriptFault
@@ -103,7 +103,7 @@ checked_as seat txn steps (Faulty fault) = Err (Txn seat txn fault)
 -- a transaction on channels of these kinds: all its steps are read first, and then checked
 abbrev pub transaction_in : List Kind → ℕ → ℕ → Data → Result CheckedView ScriptFault
 transaction_in kinds seat txn tree =
-    then_reads (or_unread seat txn (steps_in_tree tree))
+    then_reads (or_step_fault seat txn (steps_in_tree tree))
     (λ steps. checked_as seat txn steps (walk (slice_get kinds) steps))
 
 -- the transactions of a seat, from this number on
@@ -123,12 +123,12 @@ seats_in kinds seat (tree ∷ trees) = in_order (seat_in kinds seat tree) (seats
 
 -- seats on channels that were read: the number of seats is tested first
 abbrev pub with_seats : List Data → List Decl → Result Script ScriptFault
-with_seats seats decls = if nat_eq (length seats) 0 || nat_lt most_seats (length seats) then Err BadSeatCount
+with_seats seats decls = if nat_eq (length seats) 0 || nat_lt max_seats (length seats) then Err BadSeatCount
     else mapped (λ plans. record { decls = decls; seats = plans }) (seats_in (kinds_in decls) 0 seats)
 
 -- channels and seats
 abbrev pub script_from : List Data → List Data → Result Script ScriptFault
-script_from channels seats = if nat_lt most_channels (length channels) then Err TooManyChannels
+script_from channels seats = if nat_lt max_channels (length channels) then Err TooManyChannels
     else then_reads (decls_in 0 channels) (with_seats seats)
 
 -- a script of these two lists, if both are lists
@@ -157,4 +157,4 @@ script_of_tree (Some tree) = script_of tree
 
 -- the script of a text, or the first fault
 unfoldable pub script_in : List ℕ → Result Script ScriptFault
-script_in bytes = if nat_lt most_bytes (length bytes) then Err TooLarge else script_of_tree (tree_of bytes)
+script_in bytes = if nat_lt max_bytes (length bytes) then Err TooLarge else script_of_tree (tree_of bytes)

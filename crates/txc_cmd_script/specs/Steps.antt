@@ -4,11 +4,11 @@ use Rattle.serde_json.specs.Data.{Data, null, boolean, number, string, array, ob
 use Rattle.serde_json.specs.Find.{as_str}
 use Rattle.txc_txn_check.specs.declared.step.Step.{Step}
 use Rattle.txc_txn_check.specs.declared.step.Step.TheVariants.{Do, Or, Retry}
-use Rattle.txc_cmd_script.specs.declared.steps.Unread.{Unread}
-use Rattle.txc_cmd_script.specs.declared.steps.Unread.TheVariants.{Shape, UnknownOp}
-use Rattle.txc_cmd_script.specs.declared.verb.Verb.{Verb}
-use Rattle.txc_cmd_script.specs.declared.verb.Verb.TheVariants as verb
-use Rattle.txc_cmd_script.specs.Operations.{verb_of, op_of}
+use Rattle.txc_cmd_script.specs.declared.steps.StepFault.{StepFault}
+use Rattle.txc_cmd_script.specs.declared.steps.StepFault.TheVariants.{Shape, UnknownOp}
+use Rattle.txc_cmd_script.specs.declared.step_name.StepName.{StepName}
+use Rattle.txc_cmd_script.specs.declared.step_name.StepName.TheVariants as step_name
+use Rattle.txc_cmd_script.specs.Operations.{step_name_of, op_of}
 use Rattle.txc_cmd_script.specs.Tree.{list_of_items}
 
 -- the value, or this fault if there is none
@@ -37,32 +37,32 @@ are_lists (item (array items) rest) = are_lists rest
 are_lists (item tree rest) = false
 
 -- `retry` has no more elements
-abbrev pub retry_of : Items → Result Step Unread
+abbrev pub retry_of : Items → Result Step StepFault
 retry_of no_items = Ok Retry
 retry_of (item tree rest) = Err Shape
 
--- the step of a verb without branches and the elements after it
-abbrev pub step_alone : Verb → Items → Result Step Unread
-step_alone verb.Retry elements = retry_of elements
-step_alone verb elements = mapped Do (or_fault Shape (op_of verb (list_of_items elements)))
+-- the step of a step name without branches and the elements after it
+abbrev pub simple_step : StepName → Items → Result Step StepFault
+simple_step step_name.Retry elements = retry_of elements
+simple_step step_name elements = mapped Do (or_fault Shape (op_of step_name (list_of_items elements)))
 
--- the step of a verb and the elements after it, given the branches in them
-abbrev pub step_by : Verb → Items → Result (List (List Step)) Unread → Result Step Unread
-step_by verb.Or elements branches = if are_lists elements then mapped Or branches else Err Shape
-step_by verb elements branches = step_alone verb elements
+-- the step of a step name and the elements after it, given the branches in them
+abbrev pub step_by : StepName → Items → Result (List (List Step)) StepFault → Result Step StepFault
+step_by step_name.Or elements branches = if are_lists elements then mapped Or branches else Err Shape
+step_by step_name elements branches = simple_step step_name elements
 
--- the verb that the first element's text names, if it has one
-abbrev pub verb_named : Option (List ℕ) → Result Verb Unread
-verb_named None = Err Shape
-verb_named (Some name) = or_fault UnknownOp (verb_of name)
+-- the step name that the first element's text names, if it has one
+abbrev pub step_name_in : Option (List ℕ) → Result StepName StepFault
+step_name_in None = Err Shape
+step_name_in (Some name) = or_fault UnknownOp (step_name_of name)
 
 -- the step by the first element's text, if it has one
-abbrev pub step_named : Option (List ℕ) → Items → Result (List (List Step)) Unread → Result Step Unread
-step_named name elements branches = then_reads (verb_named name) (λ verb. step_by verb elements branches)
+abbrev pub step_named : Option (List ℕ) → Items → Result (List (List Step)) StepFault → Result Step StepFault
+step_named name elements branches = then_reads (step_name_in name) (λ step_name. step_by step_name elements branches)
 
 abbrev mutual
   -- a step: a list that begins with a text
-  pub step_in_tree : Data → Result Step Unread
+  pub step_in_tree : Data → Result Step StepFault
   step_in_tree null = Err Shape
   step_in_tree (boolean b) = Err Shape
   step_in_tree (number n) = Err Shape
@@ -71,12 +71,12 @@ abbrev mutual
   step_in_tree (object entries) = Err Shape
 
   -- a step's elements: the first names it
-  pub step_in_items : Items → Result Step Unread
+  pub step_in_items : Items → Result Step StepFault
   step_in_items no_items = Err Shape
   step_in_items (item name elements) = step_named (as_str name) elements (branches_in_items elements)
 
   -- a list of steps
-  pub steps_in_tree : Data → Result (List Step) Unread
+  pub steps_in_tree : Data → Result (List Step) StepFault
   steps_in_tree null = Err Shape
   steps_in_tree (boolean b) = Err Shape
   steps_in_tree (number n) = Err Shape
@@ -85,11 +85,11 @@ abbrev mutual
   steps_in_tree (object entries) = Err Shape
 
   -- steps, in order
-  pub steps_in_items : Items → Result (List Step) Unread
+  pub steps_in_items : Items → Result (List Step) StepFault
   steps_in_items no_items = Ok []
   steps_in_items (item step rest) = in_order (step_in_tree step) (steps_in_items rest)
 
   -- branches, in order
-  pub branches_in_items : Items → Result (List (List Step)) Unread
+  pub branches_in_items : Items → Result (List (List Step)) StepFault
   branches_in_items no_items = Ok []
   branches_in_items (item branch rest) = in_order (steps_in_tree branch) (branches_in_items rest)

@@ -7,10 +7,10 @@ mod fault;
 mod operation;
 mod read;
 mod script;
+mod step_name;
 mod steps;
 mod tree;
-mod verb;
 
 pub use fault::ScriptFault;
-pub use read::{MOST_BYTES, read_script};
+pub use read::{MAX_BYTES, read_script};
 pub use script::Script;

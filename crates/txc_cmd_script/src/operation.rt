@@ -4,8 +4,8 @@ ghost use Rattle.serde_json.specs.View.{view};
 ghost use Rattle.txc_cmd_script.specs.Operations.{number_in, source_in, on_chan, by_reader, of_body, put_back_of};
 ghost use Rattle.txc_cmd_script.specs.Operations.{op_of};
 
+use crate::step_name::StepName;
 use crate::tree::says;
-use crate::verb::Verb;
 use serde_json::Value;
 use txc_base::{Op, Source};
 
@@ -72,27 +72,39 @@ fn read_put_back(operands: &[Value]) -> Option<Op>
     Some(Op::PutBack { chan, reader, body })
 }
 
-/// Reads the operation of a verb and the elements after it. Returns `None` for `or` and `retry`, which are not
+/// Reads the operation of a step name and the elements after it. Returns `None` for `or` and `retry`, which are not
 /// operations.
-pub(crate) fn read_op(verb: Verb, operands: &[Value]) -> Option<Op>
-    ensures { result ≡ op_of verb (map view operands.now) }
+pub(crate) fn read_op(step_name: StepName, operands: &[Value]) -> Option<Op>
+    ensures { result ≡ op_of step_name (map view operands.now) }
 {
-    match verb {
-        Verb::Write => read_body(operands).map(|(chan, body)| Op::Write { chan, body }),
-        Verb::TryWrite => read_body(operands).map(|(chan, body)| Op::TryWrite { chan, body }),
-        Verb::Read => read_reader(operands).map(|(chan, reader)| Op::Read { chan, reader }),
-        Verb::TryRead => read_reader(operands).map(|(chan, reader)| Op::TryRead { chan, reader }),
-        Verb::Peek => read_reader(operands).map(|(chan, reader)| Op::Peek { chan, reader }),
-        Verb::TryPeek => read_reader(operands).map(|(chan, reader)| Op::TryPeek { chan, reader }),
-        Verb::PutBack => read_put_back(operands),
-        Verb::Close => read_chan(operands).map(|chan| Op::Close { chan }),
-        Verb::IsClosed => read_chan(operands).map(|chan| Op::IsClosed { chan }),
-        Verb::IsEmpty => read_reader(operands).map(|(chan, reader)| Op::IsEmpty { chan, reader }),
-        Verb::IsFull => read_chan(operands).map(|chan| Op::IsFull { chan }),
-        Verb::Dup => read_chan(operands).map(|chan| Op::Dup { chan }),
-        Verb::Clone => read_reader(operands).map(|(chan, reader)| Op::CloneReader { chan, reader }),
-        Verb::Flush => read_reader(operands).map(|(chan, reader)| Op::Flush { chan, reader }),
-        Verb::Length => read_chan(operands).map(|chan| Op::Length { chan }),
-        Verb::Or | Verb::Retry => None,
+    match step_name {
+        StepName::Write => read_body(operands).map(|(chan, body)| Op::Write { chan, body }),
+        StepName::TryWrite => read_body(operands).map(|(chan, body)| Op::TryWrite { chan, body }),
+        StepName::Read => read_reader(operands).map(|(chan, reader)| Op::Read { chan, reader }),
+        StepName::TryRead => read_reader(operands).map(|(chan, reader)| Op::TryRead {
+            chan,
+            reader,
+        }),
+        StepName::Peek => read_reader(operands).map(|(chan, reader)| Op::Peek { chan, reader }),
+        StepName::TryPeek => read_reader(operands).map(|(chan, reader)| Op::TryPeek {
+            chan,
+            reader,
+        }),
+        StepName::PutBack => read_put_back(operands),
+        StepName::Close => read_chan(operands).map(|chan| Op::Close { chan }),
+        StepName::IsClosed => read_chan(operands).map(|chan| Op::IsClosed { chan }),
+        StepName::IsEmpty => read_reader(operands).map(|(chan, reader)| Op::IsEmpty {
+            chan,
+            reader,
+        }),
+        StepName::IsFull => read_chan(operands).map(|chan| Op::IsFull { chan }),
+        StepName::Dup => read_chan(operands).map(|chan| Op::Dup { chan }),
+        StepName::Clone => read_reader(operands).map(|(chan, reader)| Op::CloneReader {
+            chan,
+            reader,
+        }),
+        StepName::Flush => read_reader(operands).map(|(chan, reader)| Op::Flush { chan, reader }),
+        StepName::Length => read_chan(operands).map(|chan| Op::Length { chan }),
+        StepName::Or | StepName::Retry => None,
     }
 }

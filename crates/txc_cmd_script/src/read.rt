@@ -6,21 +6,21 @@ ghost use Rattle.txc_txn_check.specs.Steps.{Fits};
 ghost use Rattle.txc_cmd_script.specs.Reading.{transaction_in, transactions_in, seat_in, seats_in, with_seats};
 ghost use Rattle.txc_cmd_script.specs.Reading.{script_from};
 ghost use Rattle.txc_cmd_script.specs.Reading.{with_three_keys, script_of, script_in};
-ghost use Rattle.txc_cmd_script.specs.Script.{most_channels};
+ghost use Rattle.txc_cmd_script.specs.Script.{max_channels};
 
 use crate::channel::read_decls;
 use crate::fault::ScriptFault;
 use crate::script::Script;
-use crate::steps::{Unread, read_steps};
+use crate::steps::{StepFault, read_steps};
 use crate::tree::{count_keys, elements, elements_at, number_at};
 use serde_json::Value;
 use std::alloc::Global;
-use txc_base::{Kind, MOST_CHANNELS, MOST_SEATS};
+use txc_base::{Kind, MAX_CHANNELS, MAX_SEATS};
 use txc_chan::{Decl, kinds_of};
 use txc_txn_check::Checked;
 
 /// The maximum size of a script, in bytes.
-pub const MOST_BYTES: usize = 1_048_576;
+pub const MAX_BYTES: usize = 1_048_576;
 
 /// Reads a transaction on channels of these kinds: first all its steps, then the check.
 fn read_transaction(
@@ -37,9 +37,9 @@ fn read_transaction(
 {
     let steps = match read_steps(alloc, tree) {
         Ok(steps) => steps,
-        Err(Unread::Shape) => return Err(ScriptFault::Shape),
-        Err(Unread::UnknownOp) => return Err(ScriptFault::UnknownOp { seat, txn }),
-        Err(Unread::NoMemory) => return Err(ScriptFault::NoMemory),
+        Err(StepFault::Shape) => return Err(ScriptFault::Shape),
+        Err(StepFault::UnknownOp) => return Err(ScriptFault::UnknownOp { seat, txn }),
+        Err(StepFault::NoMemory) => return Err(ScriptFault::NoMemory),
     };
     Checked::check(steps, kinds).map_err(|fault| ScriptFault::Txn { seat, txn, fault })
 }
@@ -104,12 +104,12 @@ fn read_seats(
 
 /// Makes the script of these channels and seats. Tests the number of seats first.
 fn read_with_seats(alloc: Global, decls: Vec<Decl>, seats: &[Value]) -> Result<Script, ScriptFault>
-    requires few { length decls.items ≤ most_channels }
+    requires few { length decls.items ≤ max_channels }
     requires made { first_fault decls.items ≡ None }
     ensures ok { IfOk result (λ script. with_seats (map view seats.now) decls.items ≡ Ok script) }
     ensures err { IfErr result (λ e. e ≢ ScriptFault.NoMemory → with_seats (map view seats.now) decls.items ≡ Err e) }
 {
-    if seats.is_empty() || seats.len() > MOST_SEATS {
+    if seats.is_empty() || seats.len() > MAX_SEATS {
         return Err(ScriptFault::BadSeatCount);
     }
     let kinds = kinds_of(alloc, decls.as_slice())?;
@@ -123,7 +123,7 @@ fn read_lists(alloc: Global, channels: &[Value], seats: &[Value]) -> Result<Scri
     ensures err { IfErr result (λ e. e ≢ ScriptFault.NoMemory
         → script_from (map view channels.now) (map view seats.now) ≡ Err e) }
 {
-    if channels.len() > MOST_CHANNELS {
+    if channels.len() > MAX_CHANNELS {
         return Err(ScriptFault::TooManyChannels);
     }
     let decls = read_decls(alloc, channels)?;
@@ -182,7 +182,7 @@ pub fn read_script(alloc: Global, bytes: &[u8]) -> Result<Script, ScriptFault>
     ensures ok { IfOk result (λ script. script_in bytes.now ≡ Ok script) }
     ensures err { IfErr result (λ e. e ≢ ScriptFault.NoMemory → script_in bytes.now ≡ Err e) }
 {
-    if bytes.len() > MOST_BYTES {
+    if bytes.len() > MAX_BYTES {
         return Err(ScriptFault::TooLarge);
     }
     match Value::from_slice(alloc, bytes) {

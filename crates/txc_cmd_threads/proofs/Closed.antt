@@ -12,7 +12,7 @@ use Rattle.txc_cmd_report.specs.declared.outcome.Outcome.{Outcome}
 use Rattle.txc_table_lines.specs.Accounted.{AreAccounts}
 use Rattle.txc_table.specs.Built.{IsBuilt}
 use Rattle.txc_table.specs.Finished.{IsOneHistory}
-use Rattle.txc_table.specs.Seat.{SeatView, sittings_of}
+use Rattle.txc_table.specs.Seat.{SeatView, commits_of}
 use Rattle.txc_table.specs.Table.{TableView}
 use Rattle.txc_table.proofs.Left.{reports}
 use Rattle.txc_cmd_threads.specs.Closed.{IsClosed}
@@ -42,7 +42,7 @@ ran table decls made plans outcome built closed =
           is_report.theirs;
       complete = record { each = closed.counted ∙ sym is_report.seated; known = closed.known };
       history = script_history decls plans closed.left outcome.ends report (sym is_report.seated) closed.many back
-          is_report.theirs (subst (λ (ds : List Decl). IsOneHistory ds (sittings_of closed.left) report)
+          is_report.theirs (subst (λ (ds : List Decl). IsOneHistory ds (commits_of closed.left) report)
           built.its_lines closed.finished.history);
       stuck = record {
         helds = closed.helds;

@@ -5,7 +5,7 @@ use Rattle.std.proofs.lemmas.Option.{get_or_from_slice_get, slice_get_within}
 use Rattle.std.proofs.Common.{IsPermutation}
 use Rattle.txc_chan.specs.declared.decl.Decl.{Decl}
 use Rattle.txc_table.specs.Finished.{IsOneHistory}
-use Rattle.txc_table.specs.Seat.{LeftSeatView, sittings_of}
+use Rattle.txc_table.specs.Seat.{DepartedSeatView, commits_of}
 use Rattle.txc_table.proofs.Left.{nobody}
 use Rattle.txc_table_report.specs.Finished.{AreTheirs}
 use Rattle.txc_cmd_report.specs.declared.seat_end.SeatEnd.TheVariants.{Finished}
@@ -14,30 +14,30 @@ use Rattle.txc_txn_history.specs.OneOrder.{IsOneOrder}
 use Rattle.txc_cmd_threads.specs.Pool.{HaveServed}
 use Rattle.txc_cmd_threads.proofs.Back.{back_number, found}
 use Rattle.txc_txn_check.specs.Limits.{CheckedView}
-use Rattle.txc_table_seat.specs.Seated.{Sitting, untouched, with_receipt}
+use Rattle.txc_table_seat.specs.Seated.{SeatCommits, no_commits, with_receipt}
 use Rattle.txc_cmd_report.specs.declared.seat_end.SeatEnd.{SeatEnd}
 use Rattle.txc_txn.specs.declared.receipt.Receipt.{Receipt}
 use Rattle.txc_txn_history.specs.Events.{Event, events_from, events_of}
 use Rattle.txc_cmd_threads.specs.Serves.{Serves}
 
 -- a seat that served these transactions has run the first of them, one for each receipt
-pub record SeatHasRun (plans : List CheckedView) (before after : Sitting) : Type 0 where
+pub record SeatHasRun (plans : List CheckedView) (before after : SeatCommits) : Type 0 where
   pub front : List CheckedView
   pub rest : List CheckedView
   pub split : plans ≡ front ++ rest
   pub ran : after.plans ≡ before.plans ++ front
   pub counted : length after.receipts ≡ length before.receipts + length front
 
-has_none : (plans : List CheckedView) (before after : Sitting) → after ≡ before → SeatHasRun plans before after
+has_none : (plans : List CheckedView) (before after : SeatCommits) → after ≡ before → SeatHasRun plans before after
 has_none plans before after same = record {
   front = [];
   rest = plans;
   split = refl;
-  ran = ap (λ (s : Sitting). s.plans) same ∙ sym (append-nil before.plans);
-  counted = omega (arith, ap (λ (s : Sitting). length s.receipts) same);
+  ran = ap (λ (s : SeatCommits). s.plans) same ∙ sym (append-nil before.plans);
+  counted = omega (arith, ap (λ (s : SeatCommits). length s.receipts) same);
 }
 
-pub has_run : (lines : List Decl) (plans : List CheckedView) (before after : Sitting) (end : SeatEnd)
+pub has_run : (lines : List Decl) (plans : List CheckedView) (before after : SeatCommits) (end : SeatEnd)
     → Serves lines plans before after end → SeatHasRun plans before after
 has_run lines [] before after end s = has_none [] before after s.0
 has_run lines (plan ∷ plans) before after end (inr s) = has_none (plan ∷ plans) before after s.0
@@ -89,11 +89,11 @@ events_same seat (o ∷ seats) (f ∷ ran) (r ∷ receipts) many all each =
     λ i. first i ++ rest i
 
 -- the history of what the seats ran is one of the script
-pub script_history : (decls : List Decl) (plans : List (List CheckedView)) (left : List LeftSeatView)
+pub script_history : (decls : List Decl) (plans : List (List CheckedView)) (left : List DepartedSeatView)
     (ends : List SeatEnd)
     (report : Report) → length plans ≡ length report.receipts → length left ≡ length plans
-    → HaveServed decls plans left ends → AreTheirs (sittings_of left) report.receipts
-    → IsOneHistory decls (sittings_of left) report → (order : List Event) × IsOneOrder decls plans report order
+    → HaveServed decls plans left ends → AreTheirs (commits_of left) report.receipts
+    → IsOneHistory decls (commits_of left) report → (order : List Event) × IsOneOrder decls plans report order
 script_history decls plans left ends report many here back theirs history = (
   history.order,
   record {
@@ -108,12 +108,12 @@ script_history decls plans left ends report many here back theirs history = (
   },
 )
   where
-    number_at : (at : ℕ) (seat : Sitting) (n : ℕ) → slice_get (sittings_of left) at ≡ Some seat → seat.number ≡ n
+    number_at : (at : ℕ) (seat : SeatCommits) (n : ℕ) → slice_get (commits_of left) at ≡ Some seat → seat.number ≡ n
         → at ≡ n
     number_at at seat n is its =
         let it = found left at seat is in
         let within : at < length plans = subst (λ m. at < m) here it.0 in
-        sym (back_number decls plans left ends back at nobody within) ∙ (ap (λ (s : Sitting). s.number) it.1 ∙ its)
+        sym (back_number decls plans left ends back at nobody within) ∙ (ap (λ (s : SeatCommits). s.number) it.1 ∙ its)
 
     each : (n : ℕ) (own front : List CheckedView) (its : List Receipt) → slice_get plans n ≡ Some own
         → slice_get history.plans n ≡ Some front → slice_get report.receipts n ≡ Some its
@@ -121,23 +121,23 @@ script_history decls plans left ends report many here back theirs history = (
     each n own front its at at' at'' =
         let by = history.ran n front at' in
         let of = theirs.each n its at'' in
-        let one : slice_get (sittings_of left) n ≡ Some by.seat = subst
-        (λ k. slice_get (sittings_of left) k ≡ Some by.seat)
+        let one : slice_get (commits_of left) n ≡ Some by.seat = subst
+        (λ k. slice_get (commits_of left) k ≡ Some by.seat)
         (number_at by.at by.seat n by.here by.its) by.here in
-        let other : slice_get (sittings_of left) n ≡ Some of.seat = subst
-        (λ k. slice_get (sittings_of left) k ≡ Some of.seat)
+        let other : slice_get (commits_of left) n ≡ Some of.seat = subst
+        (λ k. slice_get (commits_of left) k ≡ Some of.seat)
         (number_at of.at of.seat n of.here of.its) of.here in
         let same_seat : by.seat ≡ of.seat = cc (one, other) in
         let below : n < length plans = slice_get_within plans n own at in
-        let serves : Serves decls own (untouched n) by.seat (slice_index_or ends n Finished) =
-        subst (λ (ps : List CheckedView). Serves decls ps (untouched n) by.seat (slice_index_or ends n Finished))
+        let serves : Serves decls own (no_commits n) by.seat (slice_index_or ends n Finished) =
+        subst (λ (ps : List CheckedView). Serves decls ps (no_commits n) by.seat (slice_index_or ends n Finished))
         (get_or_from_slice_get plans n own [] at)
-        (subst (λ (s : Sitting). Serves decls (slice_index_or plans n []) (untouched n) s
+        (subst (λ (s : SeatCommits). Serves decls (slice_index_or plans n []) (no_commits n) s
         (slice_index_or ends n Finished)) (found left n by.seat one).1 (back n nobody below)) in
-        let run : SeatHasRun own (untouched n) by.seat = has_run decls own (untouched n) by.seat
+        let run : SeatHasRun own (no_commits n) by.seat = has_run decls own (no_commits n) by.seat
         (slice_index_or ends n Finished) serves in
         let is : run.front ≡ front = sym run.ran ∙ by.theirs in
-        let receipts : by.seat.receipts ≡ its = ap (λ (s : Sitting). s.receipts) same_seat ∙ of.theirs in
+        let receipts : by.seat.receipts ≡ its = ap (λ (s : SeatCommits). s.receipts) same_seat ∙ of.theirs in
         let long : length run.front ≡ length its =
         omega (arith, run.counted, ap (λ (rs : List Receipt). length rs) receipts) in
         ap (λ (ps : List CheckedView). events_of (0 + n) 0 ps its) run.split

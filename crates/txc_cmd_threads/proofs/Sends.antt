@@ -12,7 +12,7 @@ use Rattle.txc_table_seat.proofs.Sends.{each_sends}
 use Rattle.txc_table_seat.specs.contracts.all_receipts.AllReceipts as each
 use Rattle.txc_table_seat.specs.contracts.all_receipts.AllReceiptsReceipts.TheImpl as each_receipts
 use Rattle.txc_table.proofs.Sends as core
-use Rattle.txc_table.specs.contracts.left_seat.LeftSeat as left
+use Rattle.txc_table.specs.contracts.departed_seat.DepartedSeat as left
 use Rattle.txc_table.specs.contracts.seat.Seat as seat
 use Rattle.txc_table.specs.contracts.table.Table as table
 use Rattle.txc_cmd_threads.specs.contracts.job.Job as job

@@ -4,7 +4,7 @@ use Rattle.std.proofs.Common.{Result, Ok, Err, drop, length-append, slice_index_
 use Rattle.std.proofs.Math.Seq.{drop-cons}
 use Rattle.txc_chan.specs.declared.decl.Decl.{Decl}
 use Rattle.txc_txn_check.specs.Limits.{CheckedView}
-use Rattle.txc_table_seat.specs.Seated.{Sitting, with_receipt}
+use Rattle.txc_table_seat.specs.Seated.{SeatCommits, with_receipt}
 use Rattle.txc_base.specs.declared.cause.Cause.{Cause}
 use Rattle.txc_base.specs.declared.stop.Stop.{Stop}
 use Rattle.txc_cmd_report.specs.declared.seat_end.SeatEnd.{SeatEnd}
@@ -17,16 +17,16 @@ use Rattle.txc_txn.specs.Maps.{Map}
 use Rattle.txc_cmd_threads.specs.Serves.{Serves, IsEndOf, IsKeptOf}
 
 -- the number of a seat stays
-pub serves_number : (lines : List Decl) (plans : List CheckedView) (before after : Sitting) (end : SeatEnd)
+pub serves_number : (lines : List Decl) (plans : List CheckedView) (before after : SeatCommits) (end : SeatEnd)
     → Serves lines plans before after end → after.number ≡ before.number
-serves_number lines [] before after end s = ap (λ (x : Sitting). x.number) s.0
+serves_number lines [] before after end s = ap (λ (x : SeatCommits). x.number) s.0
 serves_number lines (plan ∷ plans) before after end (inl s) = serves_number lines plans (with_receipt before plan s.0)
     after
     end s.2
-serves_number lines (plan ∷ plans) before after end (inr s) = ap (λ (x : Sitting). x.number) s.0
+serves_number lines (plan ∷ plans) before after end (inr s) = ap (λ (x : SeatCommits). x.number) s.0
 
 -- where the next one isn't kept, that ends it
-pub ends_here : (lines : List Decl) (plans : List CheckedView) (at : ℕ) (plan : CheckedView) (seat after : Sitting)
+pub ends_here : (lines : List Decl) (plans : List CheckedView) (at : ℕ) (plan : CheckedView) (seat after : SeatCommits)
     (end : SeatEnd)
     → at < length plans → plan ≡ slice_index_or plans at plan → after ≡ seat → IsEndOf lines plan seat end
     → Serves lines (drop at plans) seat after end
@@ -35,7 +35,8 @@ ends_here lines plans at plan seat after end below is same ends =
     (inr (same, subst (λ (p : CheckedView). IsEndOf lines p seat end) is ends))
 
 -- where the next one is kept, the others follow
-pub goes_on : (lines : List Decl) (plans : List CheckedView) (at : ℕ) (plan : CheckedView) (seat now after : Sitting)
+pub goes_on : (lines : List Decl) (plans : List CheckedView) (at : ℕ) (plan : CheckedView)
+    (seat now after : SeatCommits)
     (end : SeatEnd)
     → at < length plans → plan ≡ slice_index_or plans at plan → (receipt : Receipt)
     → IsKeptOf lines plan seat receipt → now ≡ with_receipt seat plan receipt
@@ -44,25 +45,25 @@ goes_on lines plans at plan seat now after end below is receipt kept same rest =
     let one : at + 1 ≡ suc at = omega arith in
     let more : Serves lines (drop (suc at) plans) (with_receipt seat plan receipt) after end =
     subst (λ n. Serves lines (drop n plans) (with_receipt seat plan receipt) after end) one
-    (subst (λ (s : Sitting). Serves lines (drop (at + 1) plans) s after end) same rest) in
+    (subst (λ (s : SeatCommits). Serves lines (drop (at + 1) plans) s after end) same rest) in
     subst (λ (ps : List CheckedView). Serves lines ps seat after end) (sym (drop-cons plans at plan below))
     (subst (λ (p : CheckedView). Serves lines (p ∷ drop (suc at) plans) seat after end) is (inl (receipt, kept, more)))
 
 -- one more receipt is one more
-one_more : (before : Sitting) (plan : CheckedView) (receipt : Receipt)
+one_more : (before : SeatCommits) (plan : CheckedView) (receipt : Receipt)
     → length (with_receipt before plan receipt).receipts ≡ length before.receipts + 1
 one_more before plan receipt = length-append before.receipts (receipt ∷ [])
 
 -- a seat loses no receipt
-longer : (lines : List Decl) (plans : List CheckedView) (before after : Sitting) (end : SeatEnd)
+longer : (lines : List Decl) (plans : List CheckedView) (before after : SeatCommits) (end : SeatEnd)
     → Serves lines plans before after end → length before.receipts ≤ length after.receipts
-longer lines [] before after end s = omega (arith, ap (λ (x : Sitting). length x.receipts) s.0)
+longer lines [] before after end s = omega (arith, ap (λ (x : SeatCommits). length x.receipts) s.0)
 longer lines (plan ∷ plans) before after end (inl s) =
     omega (arith, longer lines plans (with_receipt before plan s.0) after end s.2, one_more before plan s.0)
-longer lines (plan ∷ plans) before after end (inr s) = omega (arith, ap (λ (x : Sitting). length x.receipts) s.0)
+longer lines (plan ∷ plans) before after end (inr s) = omega (arith, ap (λ (x : SeatCommits). length x.receipts) s.0)
 
 -- a seat that stalled has a transaction left
-pub next_there : (lines : List Decl) (plans : List CheckedView) (before after : Sitting) (cause : Cause)
+pub next_there : (lines : List Decl) (plans : List CheckedView) (before after : SeatCommits) (cause : Cause)
     → Serves lines plans before after (Stalled cause) → (j : ℕ)
     → length after.receipts ≡ length before.receipts + j → j < length plans
 next_there lines [] before after cause s j many =
@@ -82,10 +83,10 @@ next_there lines (plan ∷ plans) before after cause (inl s) (suc j) many =
           (omega (arith, many, one_more before plan s.0)),
     )
 next_there lines (plan ∷ plans) before after cause (inr s) j many =
-    omega (arith, many, ap (λ (x : Sitting). length x.receipts) s.0)
+    omega (arith, many, ap (λ (x : SeatCommits). length x.receipts) s.0)
 
 -- if it runs what it has left, it has run all
-pub serves_then : (lines : List Decl) (plans : List CheckedView) (before between after : Sitting) (cause : Cause)
+pub serves_then : (lines : List Decl) (plans : List CheckedView) (before between after : SeatCommits) (cause : Cause)
     (end : SeatEnd) → Serves lines plans before between (Stalled cause) → (j : ℕ)
     → length between.receipts ≡ length before.receipts + j → Serves lines (drop j plans) between after end
     → Serves lines plans before after end
@@ -107,12 +108,12 @@ serves_then lines (plan ∷ plans) before between after cause end (inl s) (suc j
           (omega (arith, many, one_more before plan s.0)) rest,
     )
 serves_then lines (plan ∷ plans) before between after cause end (inr s) zero many rest =
-    subst (λ (x : Sitting). Serves lines (plan ∷ plans) x after end) s.0 rest
+    subst (λ (x : SeatCommits). Serves lines (plan ∷ plans) x after end) s.0 rest
 serves_then lines (plan ∷ plans) before between after cause end (inr s) (suc j) many rest =
-    absurd (omega (arith, many, ap (λ (x : Sitting). length x.receipts) s.0))
+    absurd (omega (arith, many, ap (λ (x : SeatCommits). length x.receipts) s.0))
 
-module _ {T : Type 0} (tried : T → Tried) (decls : List Decl) (plan : CheckedView) (before : Sitting)
-    (result : Result T Stop) (after : Sitting) (its : IsTransacted tried decls plan before result after) where
+module _ {T : Type 0} (tried : T → Tried) (decls : List Decl) (plan : CheckedView) (before : SeatCommits)
+    (result : Result T Stop) (after : SeatCommits) (its : IsTransacted tried decls plan before result after) where
   answered : (answer : T) (last : Tried) → result ≡ Ok answer → tried answer ≡ last
       → (m : Map) × AreLawful decls before.receipts m × Tells m before plan last after
   answered answer last is also =

@@ -7,7 +7,7 @@ use Rattle.txc_table_lines.specs.Accounted.{AreAccounts}
 use Rattle.txc_cmd_report.specs.declared.outcome.Outcome.{Outcome}
 use Rattle.txc_cmd_report.specs.declared.seat_end.SeatEnd.TheVariants.{Stopped}
 use Rattle.txc_table.specs.Finished.{IsFinished}
-use Rattle.txc_table.specs.Seat.{LeftSeatView}
+use Rattle.txc_table.specs.Seat.{DepartedSeatView}
 use Rattle.txc_table.specs.Table.{TableView, decls_of}
 use Rattle.txc_cmd_threads.specs.Pool.{HaveServed}
 use Rattle.txc_cmd_threads.specs.Stuck.{AreStuck}
@@ -15,7 +15,7 @@ use Rattle.txc_cmd_threads.specs.Stuck.{AreStuck}
 -- the outcome of a table that its seats have left and that ran these transactions: each seat that stalled is stuck on
 -- the channels of the report
 pub record IsClosed (table : TableView) (plans : List (List CheckedView)) (outcome : Outcome) : Type 0 where
-  pub left : List LeftSeatView
+  pub left : List DepartedSeatView
   pub many : length left ≡ length plans
   pub finished : IsFinished table left outcome.report
   pub counted : length outcome.ends ≡ length plans

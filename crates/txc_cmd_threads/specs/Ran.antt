@@ -9,7 +9,7 @@ use Rattle.txc_txn_history.specs.OneOrder.{IsOneOrder}
 use Rattle.txc_table_report.specs.Sorted.{AreTakenOnce, IsSummed}
 use Rattle.txc_cmd_report.specs.declared.outcome.Outcome.{Outcome}
 use Rattle.txc_cmd_report.specs.Outcome.{IsComplete}
-use Rattle.txc_table.specs.Seat.{LeftSeatView, sittings_of}
+use Rattle.txc_table.specs.Seat.{DepartedSeatView, commits_of}
 use Rattle.txc_cmd_threads.specs.declared.run_fault.RunFault.{RunFault}
 use Rattle.txc_cmd_threads.specs.declared.run_fault.RunFault.TheVariants.{NoThread, Torn, NoMemory}
 use Rattle.txc_cmd_threads.specs.Serves.{AreServed}
@@ -20,8 +20,8 @@ use Rattle.txc_cmd_threads.specs.Stuck.{AreStuckAtEnd}
 -- end are those of its transactions, the outcome is that of some order of these transactions in one thread, and the
 -- next transaction of each seat that stalled must be retried on the channels of the report
 pub record IsRan (decls : List Decl) (seats : List (List CheckedView)) (outcome : Outcome) : Type 0 where
-  pub left : List LeftSeatView
-  pub report : IsReport decls (length decls) (length seats) (sittings_of left) outcome.report
+  pub left : List DepartedSeatView
+  pub report : IsReport decls (length decls) (length seats) (commits_of left) outcome.report
   pub gathered : IsGathered (logs_of outcome.report.accounts) outcome.report.receipts
   pub summed : IsSummed (logs_of outcome.report.accounts) outcome.report.receipts
   pub once : AreTakenOnce decls outcome.report

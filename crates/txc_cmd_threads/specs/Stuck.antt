@@ -5,14 +5,14 @@ use Rattle.txc_chan.specs.ChanView.{ChanView}
 use Rattle.txc_txn_check.specs.Limits.{CheckedView}
 use Rattle.txc_table_lines.specs.Accounted.{AreAccounts}
 use Rattle.txc_table.specs.IdleTableView.{MustRetry}
-use Rattle.txc_table.specs.Seat.{LeftSeatView}
+use Rattle.txc_table.specs.Seat.{DepartedSeatView}
 use Rattle.txc_cmd_report.specs.declared.seat_end.SeatEnd.{SeatEnd}
 use Rattle.txc_cmd_report.specs.declared.seat_end.SeatEnd.TheVariants.{Finished, Stalled, Stopped}
-use Rattle.txc_table_seat.specs.Seated.{Sitting}
+use Rattle.txc_table_seat.specs.Seated.{SeatCommits}
 use Rattle.txc_txn.specs.declared.report.Report.{Report}
 
 -- on these channels the next transaction of a seat that stalled must be retried, for the cause that the seat ended with
-abbrev pub IsStuck : List ChanView → List CheckedView → Sitting → SeatEnd → Type 0
+abbrev pub IsStuck : List ChanView → List CheckedView → SeatCommits → SeatEnd → Type 0
 IsStuck helds plans seat Finished = Unit {0}
 IsStuck helds plans seat (Stalled cause) = (plan : CheckedView) × (slice_get plans (length seat.receipts) ≡ Some plan)
     × MustRetry helds seat plan cause
@@ -25,12 +25,12 @@ IsStalled (Stalled cause) = ⊤
 IsStalled (Stopped stop) = ⊥
 
 -- each of the first seats is stuck, up to this number
-abbrev pub AreStuck : ℕ → List ChanView → List (List CheckedView) → List LeftSeatView → List SeatEnd → Type 0
-AreStuck many helds seats left ends = (n : ℕ) (d : LeftSeatView) → n < many
-    → IsStuck helds (slice_index_or seats n []) (slice_index_or left n d).sitting (slice_index_or ends n Finished)
+abbrev pub AreStuck : ℕ → List ChanView → List (List CheckedView) → List DepartedSeatView → List SeatEnd → Type 0
+AreStuck many helds seats left ends = (n : ℕ) (d : DepartedSeatView) → n < many
+    → IsStuck helds (slice_index_or seats n []) (slice_index_or left n d).commits (slice_index_or ends n Finished)
 
 -- the channels of a report on which each seat that stalled is stuck
-pub record AreStuckAtEnd (decls : List Decl) (seats : List (List CheckedView)) (left : List LeftSeatView)
+pub record AreStuckAtEnd (decls : List Decl) (seats : List (List CheckedView)) (left : List DepartedSeatView)
     (report : Report)
     (ends : List SeatEnd) : Type 0 where
   pub helds : List ChanView

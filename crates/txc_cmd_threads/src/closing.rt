@@ -3,7 +3,7 @@ ghost use Rattle.std.specs.Prelude.{◌≡◌, ◌≢◌, false, All, IfErr, IfO
 ghost use Rattle.txc_base.specs.declared.stop.Stop.TheVariants.{NoMemory};
 ghost use Rattle.txc_txn_check.specs.Steps.{Fits};
 ghost use Rattle.txc_cmd_report.specs.declared.seat_end.SeatEnd.TheVariants.{Stopped};
-ghost use Rattle.txc_table.specs.Refused.{AreBack};
+ghost use Rattle.txc_table.specs.Refused.{AreAllSeats};
 ghost use Rattle.txc_table.specs.Table.{decls_of};
 ghost use Rattle.txc_cmd_threads.specs.Closed.{IsClosed};
 ghost use Rattle.txc_cmd_threads.specs.Pool.{HaveServed};
@@ -16,7 +16,7 @@ use std::alloc::Global;
 use std::sync::Wait;
 use txc_base::{List, Stop};
 use txc_cmd_report::{Outcome, SeatEnd};
-use txc_table::{LeftSeat, Table};
+use txc_table::{DepartedSeat, Table};
 use txc_txn_check::Checked;
 
 /// Returns whether a transaction of a seat was stopped by a failed allocation.
@@ -38,9 +38,9 @@ pub(crate) fn close<R: Wait>(
     alloc: Global,
     table: Table,
     plans: &[Vec<Checked>],
-    results: Results<LeftSeat>,
+    results: Results<DepartedSeat>,
 ) -> Result<Outcome, RunFault>
-    requires back { AreBack table.lines table.seats results.left.items }
+    requires back { AreAllSeats table.lines table.seats results.left.items }
     requires left { vec_len results.left ≡ length plans.now }
     requires ended { vec_len results.ends ≡ length plans.now }
     requires fits { All (All (λ plan. Fits (slice_get table.kinds) plan.steps)) (map (λ seat. seat.items) plans.now) }

@@ -3,9 +3,9 @@ ghost use Rattle.std.specs.Prelude.{◌≡◌, ◌<◌, All, IfSome, None, lengt
 ghost use Rattle.std.specs.Prelude.{vec_len};
 ghost use Rattle.txc_base.specs.declared.cause.Cause.{Cause as Causes};
 ghost use Rattle.txc_txn_check.specs.Steps.{Fits};
-ghost use Rattle.txc_table_seat.specs.Seated.{untouched};
+ghost use Rattle.txc_table_seat.specs.Seated.{no_commits};
 ghost use Rattle.txc_table.specs.IdleTableView.{OthersStay};
-ghost use Rattle.txc_table.specs.Seat.{LeftSeatView};
+ghost use Rattle.txc_table.specs.Seat.{DepartedSeatView};
 ghost use Rattle.txc_table.specs.Table.{decls_of};
 ghost use Rattle.txc_txn.specs.Plain.{chan_in};
 ghost use Rattle.txc_cmd_threads.specs.Pool.{HaveRun, HaveServed};
@@ -31,12 +31,12 @@ fn retry_cause<R: Wait>(
 ) -> Option<Cause>
     requires there { at < length idle.old.left }
     requires fits { All (λ plan. Fits (slice_get idle.old.table.kinds) plan.steps) plans.now }
-    requires stalled { (cause : Causes) × ((d : LeftSeatView) → Serves (decls_of idle.old.table.lines) plans.now
-        (untouched at) (slice_index_or idle.old.left at d).sitting (SeatEnd.Stalled cause)) }
-    ensures serves { IfSome result (λ cause. (d : LeftSeatView) → Serves (decls_of idle.old.table.lines) plans.now
-        (untouched at) (slice_index_or idle.old.left at d).sitting (SeatEnd.Stalled cause)) }
-    ensures stuck { IfSome result (λ cause. (d : LeftSeatView) → IsStuck idle.new.helds plans.now
-        (slice_index_or idle.old.left at d).sitting (SeatEnd.Stalled cause)) }
+    requires stalled { (cause : Causes) × ((d : DepartedSeatView) → Serves (decls_of idle.old.table.lines) plans.now
+        (no_commits at) (slice_index_or idle.old.left at d).commits (SeatEnd.Stalled cause)) }
+    ensures serves { IfSome result (λ cause. (d : DepartedSeatView) → Serves (decls_of idle.old.table.lines) plans.now
+        (no_commits at) (slice_index_or idle.old.left at d).commits (SeatEnd.Stalled cause)) }
+    ensures stuck { IfSome result (λ cause. (d : DepartedSeatView) → IsStuck idle.new.helds plans.now
+        (slice_index_or idle.old.left at d).commits (SeatEnd.Stalled cause)) }
     ensures same { IfSome result (λ _. chan_in idle.new.helds ≡ chan_in idle.old.helds) }
     ensures table { idle.new.table ≡ idle.old.table }
     ensures left { idle.new.left ≡ idle.old.left }
@@ -95,10 +95,10 @@ fn resume<R: Wait>(
     requires there { at < length idle.left }
     requires fits { All (λ plan. Fits (slice_get idle.table.kinds) plan.steps) plans.now }
     requires stalled { (cause : Causes)
-        × ((d : LeftSeatView) → Serves (decls_of idle.table.lines) plans.now (untouched at)
-        (slice_index_or idle.left at d).sitting (SeatEnd.Stalled cause)) }
-    ensures serves { (d : LeftSeatView) → Serves (decls_of idle.table.lines) plans.now (untouched at)
-        (slice_index_or result.0.left at d).sitting result.1 }
+        × ((d : DepartedSeatView) → Serves (decls_of idle.table.lines) plans.now (no_commits at)
+        (slice_index_or idle.left at d).commits (SeatEnd.Stalled cause)) }
+    ensures serves { (d : DepartedSeatView) → Serves (decls_of idle.table.lines) plans.now (no_commits at)
+        (slice_index_or result.0.left at d).commits result.1 }
     ensures others { OthersStay at idle.left result.0.left }
     ensures table { result.0.table ≡ idle.table }
 {

@@ -10,7 +10,7 @@ use std::alloc::Global;
 use std::sync::Wait;
 use txc_base_threads::{Task, show_shared};
 use txc_cmd_report::SeatEnd;
-use txc_table::{Gate, LeftSeat, Seat, Table};
+use txc_table::{DepartedSeat, Gate, Seat, Table};
 use txc_txn_check::Checked;
 
 /// A seat before its thread runs its transactions. If the job is dropped unperformed, the seat leaves the table.
@@ -47,14 +47,14 @@ pub(crate) struct JobResult<L> {
     pub(crate) end: SeatEnd,
 }
 
-impl<R: Wait, G: Gate + Drop> Task<JobResult<LeftSeat>> for Job<'_, R, G> {
+impl<R: Wait, G: Gate + Drop> Task<JobResult<DepartedSeat>> for Job<'_, R, G> {
     ghost use Rattle.txc_cmd_threads.specs.Pool.{CanRun, SeatHasRun};
 
     ghost Can = { λ job. CanRun job.table.now job.plans.now job.seat };
 
     ghost Does = { λ job served. SeatHasRun job.table.now job.plans.now job.seat served.left served.end };
 
-    fn perform(self) -> JobResult<LeftSeat> {
+    fn perform(self) -> JobResult<DepartedSeat> {
         run_job(self)
     }
 }
@@ -68,7 +68,7 @@ pub(crate) fn show_shared_plans()
 
 /// Calls the gate, with no lock held, runs the transactions of a job, which must have its seat, and makes the seat
 /// leave.
-fn run_job<R: Wait, G: Gate + Drop>(job: Job<'_, R, G>) -> JobResult<LeftSeat>
+fn run_job<R: Wait, G: Gate + Drop>(job: Job<'_, R, G>) -> JobResult<DepartedSeat>
     requires can { CanRun job.table.now job.plans.now job.seat }
     ensures { SeatHasRun job.entry.table.now job.entry.plans.now job.entry.seat result.left result.end }
 {

@@ -2,9 +2,9 @@
 ghost use Rattle.std.specs.Prelude.{◌≡◌, ◌<◌, ◌≤◌, ℕ, [], All, IfErr, IfOk, Some, length, map, slice_get};
 ghost use Rattle.std.specs.Prelude.{slice_index_or, vec_capacity, vec_len};
 ghost use Rattle.txc_txn_check.specs.Steps.{Fits};
-ghost use Rattle.txc_table_seat.specs.Seated.{untouched};
-ghost use Rattle.txc_base_threads.specs.Came.{AllCame};
-ghost use Rattle.txc_cmd_threads.specs.Pool.{AllBack, AreUnzipped, HasServed};
+ghost use Rattle.txc_table_seat.specs.Seated.{no_commits};
+ghost use Rattle.txc_base_threads.specs.Postcondition.{AllRelated};
+ghost use Rattle.txc_cmd_threads.specs.Pool.{AreAllResults, AreUnzipped, HasServed};
 ghost use Rattle.txc_cmd_threads.specs.Ran.{IsNotTorn};
 
 use crate::job::{Job, JobResult, show_shared_plans};
@@ -14,7 +14,7 @@ use std::sync::Wait;
 use std::thread::Threads;
 use txc_base_threads::{StartError, Task, run_all};
 use txc_cmd_report::SeatEnd;
-use txc_table::{Gate, LeftSeat, Seat, Table};
+use txc_table::{DepartedSeat, Gate, Seat, Table};
 use txc_txn_check::Checked;
 
 /// The data that all threads share.
@@ -109,7 +109,7 @@ fn run_jobs<
 >(rt: &'a R, alloc: Global, jobs: Vec<J>) -> Result<Results<L>, RunFault>
     requires can { (k : ℕ) (j : _) → k < vec_len jobs → J.Can (slice_index_or jobs.items k j) }
     ensures early { IfErr result IsNotTorn }
-    ensures back { IfOk result (λ results. (served : _) × AllCame J.Does jobs.items served
+    ensures back { IfOk result (λ results. (served : _) × AllRelated J.Does jobs.items served
         × AreUnzipped served results) }
 {
     match run_all(rt, alloc, jobs) {
@@ -128,18 +128,18 @@ pub(crate) fn work_all<'a, R: Threads + Wait + Sync + 'a, G: Gate + Send + Drop 
     pool: Pool<'a, R>,
     seats: Vec<Seat>,
     gates: Vec<G>,
-) -> Result<Results<LeftSeat>, RunFault>
+) -> Result<Results<DepartedSeat>, RunFault>
     requires fits { All (All (λ plan. Fits (slice_get pool.table.now.kinds) plan.steps))
         (map (λ seat. seat.items) pool.plans.now) }
     requires seats { vec_len seats ≡ length pool.plans.now }
     requires of { (k : ℕ) (s : _) → k < vec_len seats
         → (slice_index_or seats.items k s).lines ≡ pool.table.now.lines }
-    requires fresh { (k : ℕ) (s : _) → k < vec_len seats → (slice_index_or seats.items k s).sitting ≡ untouched k }
+    requires fresh { (k : ℕ) (s : _) → k < vec_len seats → (slice_index_or seats.items k s).commits ≡ no_commits k }
     requires gates { vec_len gates ≡ length pool.plans.now }
     ensures early { IfErr result IsNotTorn }
     ensures back { let plans = map (λ seat. seat.items) pool.entry.plans.now in
-        IfOk result (AllBack (length pool.entry.plans.now)
-        (λ k left end. HasServed pool.entry.table.now (slice_index_or plans k []) (untouched k) left end)) }
+        IfOk result (AreAllResults (length pool.entry.plans.now)
+        (λ k left end. HasServed pool.entry.table.now (slice_index_or plans k []) (no_commits k) left end)) }
 {
     let (rt, alloc) = (pool.rt, pool.alloc);
     let mut jobs: Vec<Job<'a, R, G>> = Vec::new(alloc);

@@ -21,7 +21,7 @@ pub(crate) fn serve<R: Wait>(
 ) -> SeatEnd
     requires of { seat.old.lines ≡ table.now.lines }
     requires fits { All (λ plan. Fits (slice_get table.now.kinds) plan.steps) plans.now }
-    ensures serves { Serves (decls_of table.now.lines) plans.now seat.old.sitting seat.new.sitting result }
+    ensures serves { Serves (decls_of table.now.lines) plans.now seat.old.commits seat.new.commits result }
     ensures lines { seat.new.lines ≡ seat.old.lines }
 {
     for plan in plans {

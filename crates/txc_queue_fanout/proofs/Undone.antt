@@ -9,9 +9,9 @@ use Rattle.std.proofs.lemmas.Bool.{cases_lt}
 use Rattle.std.proofs.lemmas.List.Elements.{All-map}
 use Rattle.txc_base.specs.declared.item.Item.{Item}
 use Rattle.txc_queue.specs.Queue.{Queue, empty, pushed_back, pushed_front, unpopped, without_back, without_first_item}
-use Rattle.txc_queue_fanout.specs.Fanout.{queue_at, after_pop, popped, fed, without_backs, unpopped_at}
+use Rattle.txc_queue_fanout.specs.Fanout.{queue_at, after_pop, popped, appended_to_all, without_backs, unpopped_at}
 use Rattle.txc_queue_fanout.specs.Fanout.{without_front_at}
-use Rattle.txc_queue_fanout.specs.Fanout.{UndoesFed, UndoesPop, UndoesPushFront}
+use Rattle.txc_queue_fanout.specs.Fanout.{UndoesAppendToAll, UndoesPop, UndoesPushFront}
 
 abbrev HasItem : Queue → Type 0
 HasItem queue = 0 < length queue.items
@@ -28,39 +28,40 @@ same_again queue item =
     (let more = length_push queue.items item in omega arith))
 
 -- and all queues
-pub all_again : (fanout : List Queue) (item : Item) → without_backs (fed fanout item) ≡ fanout
+pub all_again : (fanout : List Queue) (item : Item) → without_backs (appended_to_all fanout item) ≡ fanout
 all_again [] item = refl
 all_again (queue ∷ fanout) item =
-    ap (λ (first : Queue). first ∷ without_backs (fed fanout item)) (same_again queue item)
+    ap (λ (first : Queue). first ∷ without_backs (appended_to_all fanout item)) (same_again queue item)
     ∙ ap (λ (rest : List Queue). queue ∷ rest) (all_again fanout item)
 
 -- each queue has what was appended
-pub have_some : (fanout : List Queue) (item : Item) → All (λ (queue : Queue). 0 < length queue.items) (fed fanout item)
+pub have_some : (fanout : List Queue) (item : Item) → All (λ (queue : Queue). 0 < length queue.items)
+    (appended_to_all fanout item)
 have_some fanout item =
     All-map HasItem (with_item item) fanout
     (λ k other within. let more = length_push (slice_index_or fanout k other).items item in omega arith)
 
 -- the first queues have one item more, the others are as they were
 abbrev pub AreFed : List Queue → ℕ → Item → List Queue → Type 0
-AreFed fanout count item new = new ≡ fed (take count fanout) item ++ drop count fanout
+AreFed fanout count item new = new ≡ appended_to_all (take count fanout) item ++ drop count fanout
 
--- so many queues are fed
-fed_count : (fanout : List Queue) (count : ℕ) (item : Item) → count ≤ length fanout
-    → length (fed (take count fanout) item) ≡ count
-fed_count fanout count item few = length-map (take count fanout) (with_item item) ∙ length-take-le count fanout few
+-- how many queues an item was appended to
+appended_count : (fanout : List Queue) (count : ℕ) (item : Item) → count ≤ length fanout
+    → length (appended_to_all (take count fanout) item) ≡ count
+appended_count fanout count item few = length-map (take count fanout) (with_item item) ∙ length-take-le count fanout few
 
 first_fed : (fanout new : List Queue) (count : ℕ) (item : Item) → count ≤ length fanout → AreFed fanout count item new
-    → take count new ≡ fed (take count fanout) item
+    → take count new ≡ appended_to_all (take count fanout) item
 first_fed fanout new count item few is =
-    ap (take count) is ∙ take_at (fed (take count fanout) item) (drop count fanout) count
-    (fed_count fanout count item few)
+    ap (take count) is ∙ take_at (appended_to_all (take count fanout) item) (drop count fanout) count
+    (appended_count fanout count item few)
 
 -- as many queues as before
 pub same_count : (fanout new : List Queue) (count : ℕ) (item : Item) → AreFed fanout count item new
     → length new ≡ length fanout
 same_count fanout new count item is =
     ap length is
-    ∙ length-append (fed (take count fanout) item) (drop count fanout)
+    ∙ length-append (appended_to_all (take count fanout) item) (drop count fanout)
     ∙ ap (λ n. n + length (drop count fanout)) (length-map (take count fanout) (with_item item))
     ∙ sym (length-append (take count fanout) (drop count fanout))
     ∙ ap length (take-append-drop count fanout)
@@ -77,15 +78,15 @@ pub as_before : (fanout new left : List Queue) (count : ℕ) (item : Item) → c
     → AreFed fanout count item new → left ≡ without_backs (take count new) ++ drop count new → left ≡ fanout
 as_before fanout new left count item few is back =
     let behind : drop count new ≡ drop count fanout =
-    ap (drop count) is ∙ drop_at (fed (take count fanout) item) (drop count fanout) count
-    (fed_count fanout count item few) in
+    ap (drop count) is ∙ drop_at (appended_to_all (take count fanout) item) (drop count fanout) count
+    (appended_count fanout count item few) in
     back
     ∙ ap (λ (first : List Queue). without_backs first ++ drop count new) (first_fed fanout new count item few is)
     ∙ ap (λ (first : List Queue). first ++ drop count new) (all_again (take count fanout) item)
     ∙ ap (λ (rest : List Queue). take count fanout ++ rest) behind
     ∙ take-append-drop count fanout
 
-pub undoes_fed : (old new : List Queue) → new ≡ without_backs old → UndoesFed old new
+pub undoes_fed : (old new : List Queue) → new ≡ without_backs old → UndoesAppendToAll old new
 undoes_fed old new is before item was = is ∙ ap without_backs was ∙ all_again before item
 
 -- a queue changed and changed back

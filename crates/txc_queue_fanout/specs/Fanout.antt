@@ -3,15 +3,15 @@ use Rattle.std.specs.Prelude.{◌≡◌, ℕ, ◌+◌, ◌-◌, ◌<◌, List, [
 use Rattle.std.specs.Prelude.{slice_set, slice_index_or, Option, Some, None, Result, Ok, Err, if◌then◌else◌, nat_le}
 use Rattle.std.specs.Prelude.{nat_lt}
 use Rattle.txc_base.specs.declared.item.Item.{Item}
-use Rattle.txc_base.specs.declared.limits.TheConstants.{MOST_READERS}
+use Rattle.txc_base.specs.declared.limits.TheConstants.{MAX_READERS}
 use Rattle.txc_base.specs.declared.stop.Stop.{Stop}
 use Rattle.txc_base.specs.declared.stop.Stop.TheVariants.{NoReader, NothingRead, TooManyReaders, Worn, NoMemory}
 use Rattle.txc_queue.specs.Queue.{Queue, empty, pushed_back, pushed_front, unpopped, with_nothing_undoable}
 use Rattle.txc_queue.specs.Queue.{without_first_item, without_back}
 
 -- a new list with this many readers, which have nothing to read (stm)
-abbrev pub unfed : ℕ → List Queue
-unfed readers = replicate readers empty
+abbrev pub empty_queues : ℕ → List Queue
+empty_queues readers = replicate readers empty
 
 -- the queue of a reader, by the reader's number
 abbrev pub queue_at : List Queue → ℕ → Queue
@@ -52,8 +52,8 @@ abbrev pub popped_at : List Queue → ℕ → List Queue
 popped_at fanout reader = with_queue_at fanout reader (popped (queue_at fanout reader))
 
 -- the list after an append: every reader has the item as its last (stm)
-abbrev pub fed : List Queue → Item → List Queue
-fed fanout item = map (λ queue. pushed_back queue item) fanout
+abbrev pub appended_to_all : List Queue → Item → List Queue
+appended_to_all fanout item = map (λ queue. pushed_back queue item) fanout
 
 -- the list after an item was put back in front of one reader's queue (stm)
 abbrev pub put_back_at : List Queue → ℕ → Item → List Queue
@@ -100,21 +100,21 @@ why_refused (Err stop) = but_memory stop
 abbrev pub no_queue : List Queue → ℕ → Option Stop
 no_queue fanout reader = if nat_lt reader (length fanout) then None else Some NoReader
 
--- the error if there are `MOST_READERS` readers already
+-- the error if there are `MAX_READERS` readers already
 abbrev pub no_place : List Queue → Option Stop
-no_place fanout = if nat_lt (length fanout) MOST_READERS then None else Some TooManyReaders
+no_place fanout = if nat_lt (length fanout) MAX_READERS then None else Some TooManyReaders
 
--- the error if there is no such reader, or there are `MOST_READERS` readers already
+-- the error if there is no such reader, or there are `MAX_READERS` readers already
 abbrev pub no_clone : List Queue → ℕ → Option Stop
 no_clone fanout reader = if nat_lt reader (length fanout) then no_place fanout else Some NoReader
 
--- the error if a new list would have more than `MOST_READERS` readers
+-- the error if a new list would have more than `MAX_READERS` readers
 abbrev pub no_opening : ℕ → Option Stop
-no_opening readers = if nat_le readers MOST_READERS then None else Some TooManyReaders
+no_opening readers = if nat_le readers MAX_READERS then None else Some TooManyReaders
 
 -- the undo of an append gives the list from before it
-abbrev pub UndoesFed : List Queue → List Queue → Type 0
-UndoesFed old new = (before : List Queue) (item : Item) → old ≡ fed before item → new ≡ before
+abbrev pub UndoesAppendToAll : List Queue → List Queue → Type 0
+UndoesAppendToAll old new = (before : List Queue) (item : Item) → old ≡ appended_to_all before item → new ≡ before
 
 -- the undo of a take gives the list from before it
 abbrev pub UndoesPop : List Queue → ℕ → Item → List Queue → Type 0

@@ -1,19 +1,20 @@
 // A broadcast list with a queue for each reader.
 ghost use Rattle.std.specs.Prelude.{◌≡◌, ◌<◌, ◌≤◌, ◌++◌, length, take, drop, slice_get, IfOk, IfErr, OnOk, OnErr, All};
-ghost use Rattle.txc_base.specs.declared.limits.TheConstants.{MOST_READERS};
+ghost use Rattle.txc_base.specs.declared.limits.TheConstants.{MAX_READERS};
 ghost use Rattle.txc_base.specs.declared.stop.Stop.TheVariants.{NoReader, NoMemory};
 ghost use Rattle.txc_queue.specs.Queue.{empty, with_nothing_undoable};
-ghost use Rattle.txc_queue_fanout.specs.Fanout.{unfed, queue_at, with_queue, unread_of, front_at, popped_at, fed};
+ghost use Rattle.txc_queue_fanout.specs.Fanout.{empty_queues, queue_at, with_queue, unread_of, front_at, popped_at};
+ghost use Rattle.txc_queue_fanout.specs.Fanout.{appended_to_all};
 ghost use Rattle.txc_queue_fanout.specs.Fanout.{put_back_at};
 ghost use Rattle.txc_queue_fanout.specs.Fanout.{with_clone_of, without_backs, unpopped_at, without_front_at};
 ghost use Rattle.txc_queue_fanout.specs.Fanout.{at_rest_all};
 ghost use Rattle.txc_queue_fanout.specs.Fanout.{without_last_queue, why_refused, no_queue, no_place, no_clone};
 ghost use Rattle.txc_queue_fanout.specs.Fanout.{no_opening};
-ghost use Rattle.txc_queue_fanout.specs.Fanout.{UndoesFed, UndoesPop, UndoesPushFront, UndoesQueue};
+ghost use Rattle.txc_queue_fanout.specs.Fanout.{UndoesAppendToAll, UndoesPop, UndoesPushFront, UndoesQueue};
 
 use std::alloc::{AllocError, Global};
 use std::marker::Model;
-use txc_base::{Item, List, MOST_READERS, Stop};
+use txc_base::{Item, List, MAX_READERS, Stop};
 use txc_queue::PairQueue;
 
 /// A broadcast list. A contract sees it as the list of its readers' queues. A queue has the items that its reader has
@@ -27,14 +28,14 @@ pub struct Fanout {
 
 impl Model for Fanout {
     ghost use Rattle.std.specs.Prelude.{◌≤◌, List, length};
-    ghost use Rattle.txc_base.specs.declared.limits.TheConstants.{MOST_READERS};
+    ghost use Rattle.txc_base.specs.declared.limits.TheConstants.{MAX_READERS};
     ghost use Rattle.txc_queue.specs.Queue.{Queue};
 
     ghost Value = { List Queue };
 
     ghost view = { λ fanout. fanout.queues.items };
 
-    ghost invariant = { λ fanout. length fanout.queues.items ≤ MOST_READERS };
+    ghost invariant = { λ fanout. length fanout.queues.items ≤ MAX_READERS };
 }
 
 impl Fanout {
@@ -42,9 +43,9 @@ impl Fanout {
     /// or `NoMemory` if allocation fails.
     pub fn new(alloc: Global, readers: u16) -> Result<Fanout, Stop>
         ensures refused { why_refused result ≡ no_opening readers }
-        ensures ok { IfOk result (λ fanout. fanout ≡ unfed readers) }
+        ensures ok { IfOk result (λ fanout. fanout ≡ empty_queues readers) }
     {
-        if u64::from(readers) > MOST_READERS {
+        if u64::from(readers) > MAX_READERS {
             return Err(Stop::TooManyReaders);
         }
         let mut queues = Vec::with_capacity(alloc, readers as usize)?;
@@ -57,7 +58,7 @@ impl Fanout {
     /// Returns the number of readers, at most 64.
     pub fn readers(&self) -> u16
         ensures value { result ≡ length self.now }
-        ensures few { result ≤ MOST_READERS }
+        ensures few { result ≤ MAX_READERS }
     {
         self.queues.len() as u16
     }
@@ -98,8 +99,8 @@ impl Fanout {
         ensures memory { IfErr result (λ stop. stop ≡ NoMemory → 0 < length (queue_at self.old reader).items) }
         ensures err { OnErr result (self.new ≡ self.old) }
     {
-        let place = self.place(reader)?;
-        let Ok(taken) = self.queues[place].pop_front() else {
+        let queue_index = self.queue_index(reader)?;
+        let Ok(taken) = self.queues[queue_index].pop_front() else {
             return Err(Stop::NoMemory);
         };
         Ok(taken)
@@ -107,7 +108,7 @@ impl Fanout {
 
     /// Writes an item at the end of every reader's queue. Returns an error if allocation fails.
     pub fn append(&mut self, item: Item) -> Result<(), AllocError>
-        ensures ok { OnOk result (self.new ≡ fed self.old item) }
+        ensures ok { OnOk result (self.new ≡ appended_to_all self.old item) }
         ensures err { OnErr result (self.new ≡ self.old) }
     {
         let count = push_to_each(self.queues.as_mut_slice(), item);
@@ -125,8 +126,8 @@ impl Fanout {
         ensures ok { OnOk result (self.new ≡ put_back_at self.old reader item) }
         ensures err { OnErr result (self.new ≡ self.old) }
     {
-        let place = self.place(reader)?;
-        let Ok(()) = self.queues[place].push_front(item) else {
+        let queue_index = self.queue_index(reader)?;
+        let Ok(()) = self.queues[queue_index].push_front(item) else {
             return Err(Stop::NoMemory);
         };
         Ok(())
@@ -154,7 +155,7 @@ impl Fanout {
         ensures ok { OnOk result (self.new ≡ with_clone_of self.old reader) }
         ensures err { OnErr result (self.new ≡ self.old) }
     {
-        let queue = &self.queues[self.place(reader)?];
+        let queue = &self.queues[self.queue_index(reader)?];
         let number = self.next_number()?;
         let clone = clone_queue(queue, self.alloc)?;
         self.queues.push(clone)?;
@@ -162,27 +163,27 @@ impl Fanout {
     }
 
     // Returns the index of a reader's queue, or `NoReader` if there is no such reader.
-    fn place(&self, reader: u16) -> Result<usize, Stop>
+    fn queue_index(&self, reader: u16) -> Result<usize, Stop>
         ensures refused { why_refused result ≡ no_queue self.now reader }
-        ensures ok { IfOk result (λ place. (place ≡ reader) × (place < length self.now)) }
+        ensures ok { IfOk result (λ queue_index. (queue_index ≡ reader) × (queue_index < length self.now)) }
         ensures err { IfErr result (λ stop. stop ≡ NoReader) }
     {
-        let place = reader as usize;
-        if place >= self.queues.len() {
+        let queue_index = reader as usize;
+        if queue_index >= self.queues.len() {
             return Err(Stop::NoReader);
         }
-        Ok(place)
+        Ok(queue_index)
     }
 
     // Returns the number that the next reader gets, or `TooManyReaders` if there are 64 readers already.
     fn next_number(&self) -> Result<u16, Stop>
         ensures refused { why_refused result ≡ no_place self.now }
         ensures ok { IfOk result (λ number. number ≡ length self.now) }
-        ensures few { OnOk result (length self.now < MOST_READERS) }
-        ensures err { OnErr result (MOST_READERS ≤ length self.now) }
+        ensures few { OnOk result (length self.now < MAX_READERS) }
+        ensures err { OnErr result (MAX_READERS ≤ length self.now) }
     {
         let number = self.readers();
-        if u64::from(number) >= MOST_READERS {
+        if u64::from(number) >= MAX_READERS {
             return Err(Stop::TooManyReaders);
         }
         Ok(number)
@@ -193,7 +194,7 @@ impl Fanout {
     pub fn undo_append(&mut self)
         requires { All (λ queue. 0 < length queue.items) self.old }
         ensures value { self.new ≡ without_backs self.old }
-        ensures undone { UndoesFed self.old self.new }
+        ensures undone { UndoesAppendToAll self.old self.new }
     {
         let all = self.queues.len();
         take_back(self.queues.as_mut_slice(), all);
@@ -244,11 +245,11 @@ impl Fanout {
 // that have the item.
 fn push_to_each(queues: &mut [PairQueue], item: Item) -> usize
     ensures few { result ≤ length queues.old }
-    ensures pushed { queues.new ≡ fed (take result queues.old) item ++ drop result queues.old }
+    ensures pushed { queues.new ≡ appended_to_all (take result queues.old) item ++ drop result queues.old }
 {
-    for place in 0..queues.len() {
-        if queues[place].push_back(item).is_err() {
-            return place;
+    for queue_index in 0..queues.len() {
+        if queues[queue_index].push_back(item).is_err() {
+            return queue_index;
         }
     }
     queues.len()
@@ -260,8 +261,8 @@ fn take_back(queues: &mut [PairQueue], count: usize)
     requires some { All (λ queue. 0 < length queue.items) (take count queues.old) }
     ensures { queues.new ≡ without_backs (take count queues.old) ++ drop count queues.old }
 {
-    for place in 0..count {
-        queues[place].undo_push_back();
+    for queue_index in 0..count {
+        queues[queue_index].undo_push_back();
     }
 }
 

@@ -5,7 +5,7 @@ use Rattle.txc_base.specs.declared.cause.Cause.{Cause}
 use Rattle.txc_base.specs.declared.kind.Kind.{Kind}
 use Rattle.txc_base.specs.declared.op.Op.{Op}
 use Rattle.txc_base.specs.declared.tag.Tag.{Tag}
-use Rattle.txc_base.specs.Kinds.{suits}
+use Rattle.txc_base.specs.Kinds.{supports}
 use Rattle.txc_base.specs.Op.{chan_of}
 use Rattle.txc_chan.specs.declared.decl.Decl.{Decl}
 use Rattle.txc_chan.specs.Decls.{kinds_in}
@@ -13,7 +13,7 @@ use Rattle.txc_txn_check.proofs.Folds.{at_do}
 use Rattle.txc_txn_check.specs.declared.step.Step.{Step}
 use Rattle.txc_txn_check.specs.declared.step.Step.TheVariants.{Do}
 use Rattle.txc_txn_check.specs.Limits.{CheckedView}
-use Rattle.txc_txn_check.specs.Steps.{Fits, NamesOnly, is_fit, suits_there}
+use Rattle.txc_txn_check.specs.Steps.{Fits, NamesOnly, is_fit, supported_there}
 use Rattle.txc_txn.specs.declared.ran.Ran.TheVariants.{Kept as RanKept}
 use Rattle.txc_txn.specs.declared.receipt.Receipt.{Receipt}
 use Rattle.txc_txn.specs.Maps.{Map}
@@ -23,7 +23,7 @@ use Rattle.txc_table_line.specs.Line.{LineId}
 use Rattle.txc_table_line.specs.SeatShare.{SeatShareView}
 use Rattle.txc_table_lines.specs.Committed.{AreCommitted, HasNoneOutside}
 use Rattle.txc_table_lines.specs.Guards.{known_of}
-use Rattle.txc_table_lines.specs.Lines.{AreTrue, line_ids, share_at}
+use Rattle.txc_table_lines.specs.Lines.{AreValidShares, line_ids, share_at}
 use Rattle.txc_table_lines.specs.OneOperation.{AreKnown, IsCommittedOne, MustRetryOne}
 use Rattle.txc_table_lines.proofs.OneCommit.{only_number}
 use Rattle.txc_table_lines.proofs.Taking.{known_since}
@@ -38,11 +38,12 @@ pub only_declared : (declared : List ℕ) (op : Op) → declared ≡ chan_of op 
 only_declared declared op is = subst (λ ds. Contains ds (chan_of op)) (sym is) (0, omega arith, refl)
 
 -- the kind of its line has the operation
-pub line_suits : (shares : List SeatShareView) (lines : List LineId) (kinds : List Kind) (op : Op) (steps : List Step)
-    → line_ids shares ≡ lines → kinds ≡ kinds_in (line_decls lines) → AreTrue shares → chan_of op < length kinds
+pub line_supports : (shares : List SeatShareView) (lines : List LineId) (kinds : List Kind) (op : Op)
+    (steps : List Step)
+    → line_ids shares ≡ lines → kinds ≡ kinds_in (line_decls lines) → AreValidShares shares → chan_of op < length kinds
     → chan_of op < length shares → steps ≡ Do op ∷ [] → Fits (slice_get kinds) steps
-    → suits (share_at shares (chan_of op)).line.decl.kind op ≡ true
-line_suits shares lines kinds op steps of declared are below there is fits =
+    → supports (share_at shares (chan_of op)).line.decl.kind op ≡ true
+line_supports shares lines kinds op steps of declared are below there is fits =
     let n = chan_of op in
     let found : AreKnown shares (known_of shares) = record {
       known = λ k lt. (are k lt).known;
@@ -51,10 +52,10 @@ line_suits shares lines kinds op steps of declared are below there is fits =
     let fit : is_fit (slice_get kinds) op ≡ true =
     at_do (is_fit (slice_get kinds)) (Do op) op refl (subst (λ ss. Fits (slice_get kinds) ss) is fits 0 (Do op)
     (omega arith)) in
-    let known : suits (known_of shares n).decl.kind op ≡ true =
-    subst (λ kind. suits_there kind op ≡ true)
+    let known : supports (known_of shares n).decl.kind op ≡ true =
+    subst (λ kind. supported_there kind op ≡ true)
     (sym (kinds_agree shares lines kinds (known_of shares) of declared found n below)) fit in
-    subst (λ (d : Decl). suits d.kind op ≡ true) ((are n there).known.declared) known
+    subst (λ (d : Decl). supports d.kind op ≡ true) ((are n there).known.declared) known
 
 -- the transaction of the operation is the whole one
 ran_as : (tag : Tag) (plan : CheckedView) (op : Op) (before after : List SeatShareView) (receipt : Receipt)

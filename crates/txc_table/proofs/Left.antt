@@ -5,47 +5,47 @@ use Rattle.std.proofs.lemmas.List.Elements.{All-from_get_or}
 use Rattle.txc_table_report.proofs.Leaving.{numbered_index}
 use Rattle.txc_chan.specs.declared.decl.Decl.{Decl}
 use Rattle.txc_table_report.specs.Finished.{IsReport, numbered}
-use Rattle.txc_table_seat.specs.Seated.{Sitting, untouched}
+use Rattle.txc_table_seat.specs.Seated.{SeatCommits, no_commits}
 use Rattle.txc_txn.specs.declared.report.Report.{Report}
 use Rattle.txc_table.specs.Built.{IsBuilt}
-use Rattle.txc_table.specs.Seat.{AreOf, SeatView, LeftSeatView, sittings_of}
+use Rattle.txc_table.specs.Seat.{AreOf, SeatView, DepartedSeatView, commits_of}
 use Rattle.txc_table.specs.Table.{TableLines, TableView, decls_of}
 
 -- some seat that has left
-pub nobody : LeftSeatView
-nobody = record { sitting = untouched 0; lines = record { book = 0; seats = 0; all = [] } }
+pub nobody : DepartedSeatView
+nobody = record { commits = no_commits 0; lines = record { ledger = 0; seats = 0; all = [] } }
 
 -- if each of these seats is of the table with these lines, then all are
-pub are_of : (lines : TableLines) (left : List LeftSeatView)
-    → ((k : ℕ) (l : LeftSeatView) → k < length left → (slice_index_or left k l).lines ≡ lines) → AreOf lines left
+pub are_of : (lines : TableLines) (left : List DepartedSeatView)
+    → ((k : ℕ) (l : DepartedSeatView) → k < length left → (slice_index_or left k l).lines ≡ lines) → AreOf lines left
 are_of lines left each =
-    All-from_get_or (λ (seat : LeftSeatView). seat.lines ≡ lines) left nobody (λ k below. each k nobody below)
+    All-from_get_or (λ (seat : DepartedSeatView). seat.lines ≡ lines) left nobody (λ k below. each k nobody below)
 
 -- what the seat at an index has committed
-pub sitting_at : (left : List LeftSeatView) (k : ℕ) (l : LeftSeatView) (s : Sitting) → k < length left
-    → slice_index_or (sittings_of left) k s ≡ (slice_index_or left k l).sitting
-sitting_at left k l s below = get_or-map (λ (seat : LeftSeatView). seat.sitting) left k l s below
+pub commits_at : (left : List DepartedSeatView) (k : ℕ) (l : DepartedSeatView) (s : SeatCommits) → k < length left
+    → slice_index_or (commits_of left) k s ≡ (slice_index_or left k l).commits
+commits_at left k l s below = get_or-map (λ (seat : DepartedSeatView). seat.commits) left k l s below
 
 -- if each seat that has left is at its number, none is missing
-pub none_missing : (seats : ℕ) (left : List LeftSeatView) → length left ≡ seats
-    → ((k : ℕ) (l : LeftSeatView) → k < seats → (slice_index_or left k l).sitting.number ≡ k) → (k : ℕ) → k < seats
-    → 0 < numbered k (sittings_of left)
+pub none_missing : (seats : ℕ) (left : List DepartedSeatView) → length left ≡ seats
+    → ((k : ℕ) (l : DepartedSeatView) → k < seats → (slice_index_or left k l).commits.number ≡ k) → (k : ℕ) → k < seats
+    → 0 < numbered k (commits_of left)
 none_missing seats left many each k below =
     let within : k < length left = subst (λ n. k < n) (sym many) below in
-    let long : length (sittings_of left) ≡ length left = length-map left (λ (seat : LeftSeatView). seat.sitting) in
-    let here : k < length (sittings_of left) = subst (λ n. k < n) (sym long) within in
-    let seat : Sitting = slice_index_or (sittings_of left) k (untouched k) in
-    numbered_index k k (sittings_of left) seat here (get_or_default (sittings_of left) k seat (untouched k) here)
-    (ap (λ (s : Sitting). s.number) (sitting_at left k nobody (untouched k) within) ∙ each k nobody below)
+    let long : length (commits_of left) ≡ length left = length-map left (λ (seat : DepartedSeatView). seat.commits) in
+    let here : k < length (commits_of left) = subst (λ n. k < n) (sym long) within in
+    let seat : SeatCommits = slice_index_or (commits_of left) k (no_commits k) in
+    numbered_index k k (commits_of left) seat here (get_or_default (commits_of left) k seat (no_commits k) here)
+    (ap (λ (s : SeatCommits). s.number) (commits_at left k nobody (no_commits k) within) ∙ each k nobody below)
 
 -- the report of a table that was made for these channels and seats
-pub reports : (table : TableView) (decls : List Decl) (seats : ℕ) (made : List SeatView) (left : List LeftSeatView)
+pub reports : (table : TableView) (decls : List Decl) (seats : ℕ) (made : List SeatView) (left : List DepartedSeatView)
     (report : Report) → IsBuilt decls seats table made
-    → IsReport (decls_of table.lines) (length table.kinds) table.seats (sittings_of left) report
-    → IsReport decls (length decls) seats (sittings_of left) report
+    → IsReport (decls_of table.lines) (length table.kinds) table.seats (commits_of left) report
+    → IsReport decls (length decls) seats (commits_of left) report
 reports table decls seats made left report built is =
-    subst (λ m. IsReport decls (length decls) m (sittings_of left) report) built.its_seats
-    (subst (λ m. IsReport decls m table.seats (sittings_of left) report) (ap length built.its_kinds
+    subst (λ m. IsReport decls (length decls) m (commits_of left) report) built.its_seats
+    (subst (λ m. IsReport decls m table.seats (commits_of left) report) (ap length built.its_kinds
     ∙ length-map decls (λ decl. decl.kind))
-    (subst (λ (ds : List Decl). IsReport ds (length table.kinds) table.seats (sittings_of left) report)
+    (subst (λ (ds : List Decl). IsReport ds (length table.kinds) table.seats (commits_of left) report)
     built.its_lines is))

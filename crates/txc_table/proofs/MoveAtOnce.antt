@@ -7,7 +7,7 @@ use Rattle.txc_base.specs.declared.op.Op.{Op}
 use Rattle.txc_base.specs.declared.op.Op.TheVariants.{Read, Write}
 use Rattle.txc_base.specs.declared.source.Source.TheVariants.{Last}
 use Rattle.txc_base.specs.declared.tag.Tag.{Tag}
-use Rattle.txc_base.specs.Kinds.{suits}
+use Rattle.txc_base.specs.Kinds.{supports}
 use Rattle.txc_base.specs.Op.{chan_of}
 use Rattle.txc_chan.specs.declared.decl.Decl.{Decl}
 use Rattle.txc_chan.specs.Decls.{kinds_in}
@@ -15,7 +15,7 @@ use Rattle.txc_txn_check.proofs.Folds.{at_do}
 use Rattle.txc_txn_check.specs.declared.step.Step.{Step}
 use Rattle.txc_txn_check.specs.declared.step.Step.TheVariants.{Do}
 use Rattle.txc_txn_check.specs.Limits.{CheckedView}
-use Rattle.txc_txn_check.specs.Steps.{Fits, NamesOnly, is_fit, suits_there}
+use Rattle.txc_txn_check.specs.Steps.{Fits, NamesOnly, is_fit, supported_there}
 use Rattle.txc_txn.specs.declared.ran.Ran.TheVariants.{Kept as RanKept}
 use Rattle.txc_txn.specs.declared.receipt.Receipt.{Receipt}
 use Rattle.txc_txn.specs.Maps.{Map}
@@ -27,7 +27,7 @@ use Rattle.txc_table_line.specs.Line.{LineId}
 use Rattle.txc_table_line.specs.SeatShare.{SeatShareView}
 use Rattle.txc_table_lines.specs.Committed.{AreCommitted, HasNoneOutside}
 use Rattle.txc_table_lines.specs.Guards.{known_of}
-use Rattle.txc_table_lines.specs.Lines.{AreTrue, line_ids, share_at}
+use Rattle.txc_table_lines.specs.Lines.{AreValidShares, line_ids, share_at}
 use Rattle.txc_table_lines.specs.OneOperation.{AreKnown}
 use Rattle.txc_table_lines.specs.TwoOperations.{IsCommittedMove, MustRetryMove}
 use Rattle.txc_table_lines.proofs.Taking.{known_since}
@@ -59,19 +59,19 @@ write_fits kinds steps from reader to is fits =
 
 -- the kind of a line has the operation
 pub line_fits : (shares : List SeatShareView) (lines : List LineId) (kinds : List Kind) (op : Op)
-    → line_ids shares ≡ lines → kinds ≡ kinds_in (line_decls lines) → AreTrue shares → chan_of op < length kinds
+    → line_ids shares ≡ lines → kinds ≡ kinds_in (line_decls lines) → AreValidShares shares → chan_of op < length kinds
     → chan_of op < length shares → is_fit (slice_get kinds) op ≡ true
-    → suits (share_at shares (chan_of op)).line.decl.kind op ≡ true
+    → supports (share_at shares (chan_of op)).line.decl.kind op ≡ true
 line_fits shares lines kinds op of declared are below there fit =
     let n = chan_of op in
     let found : AreKnown shares (known_of shares) = record {
       known = λ k lt. (are k lt).known;
       since = known_since shares are;
     } in
-    let known : suits (known_of shares n).decl.kind op ≡ true =
-    subst (λ kind. suits_there kind op ≡ true)
+    let known : supports (known_of shares n).decl.kind op ≡ true =
+    subst (λ kind. supported_there kind op ≡ true)
     (sym (kinds_agree shares lines kinds (known_of shares) of declared found n below)) fit in
-    subst (λ (d : Decl). suits d.kind op ≡ true) ((are n there).known.declared) known
+    subst (λ (d : Decl). supports d.kind op ≡ true) ((are n there).known.declared) known
 
 -- the transaction of the move is the whole one
 ran_as : (tag : Tag) (plan : CheckedView) (from reader to : ℕ) (before after : List SeatShareView) (receipt : Receipt)

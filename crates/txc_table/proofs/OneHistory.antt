@@ -25,8 +25,8 @@ use Rattle.txc_txn.specs.declared.receipt.Receipt.{Receipt}
 use Rattle.txc_txn.specs.declared.report.Report.{Report}
 use Rattle.txc_txn.specs.InLog.{Logs}
 use Rattle.txc_table_report.specs.Finished.{AreTheirs}
-use Rattle.txc_table_report.specs.Gathered.{AreOwn}
-use Rattle.txc_table_seat.specs.Seated.{IsOwn, Sitting, StampsRise}
+use Rattle.txc_table_report.specs.Gathered.{AreReceiptsOfAll}
+use Rattle.txc_table_seat.specs.Seated.{AreReceiptsOf, SeatCommits, StampsRise}
 use Rattle.txc_txn_history.specs.Commits.{Has, Rises}
 use Rattle.txc_txn_history.specs.Events.{AreInTurn, Event, IsInTurn, events_from, events_of}
 use Rattle.txc_txn_history.specs.Histories.{AreHistories}
@@ -36,12 +36,12 @@ use Rattle.txc_txn_history.specs.Seats.{AreEven, all_uses_from, uses_all}
 use Rattle.txc_txn_history.proofs.Histories.{one_order}
 use Rattle.txc_txn_history.proofs.Seats.{all_count}
 use Rattle.txc_txn_history.proofs.Turns.{has_either}
-use Rattle.txc_table_line.specs.Ledgered.{LedgeredView, no_channel}
+use Rattle.txc_table_line.specs.LineChan.{LineChanView, no_channel}
 use Rattle.txc_table_lines.specs.Accounted.{AreAccounts}
 use Rattle.txc_table_lines.specs.Locked.{AllMarked, AreClean, MarksCount, helds_of, line_marks_of}
 use Rattle.txc_table.specs.Closing.{logs_in, marks_in}
 use Rattle.txc_table.specs.Finished.{AreRanBy, IsOneHistory, IsRanBy}
-use Rattle.txc_table.specs.Seat.{AllStand}
+use Rattle.txc_table.specs.Seat.{ArePlacedEvents}
 use Rattle.txc_table.proofs.Placing.{mark_len, mark_tag}
 
 pub even_length : (plans : List (List CheckedView)) (receipts : List (List Receipt)) → AreEven plans receipts
@@ -66,14 +66,14 @@ rises_of (m ∷ ms) rise = (
   rises_of ms (λ i j d lt lt'. rise (suc i) (suc j) d (omega (arith, lt)) (omega (arith, lt'))),
 )
 
-rises_at : (channels : List LedgeredView) → AllMarked (helds_of channels) (line_marks_of channels) → (n : ℕ)
+rises_at : (channels : List LineChanView) → AllMarked (helds_of channels) (line_marks_of channels) → (n : ℕ)
     → Rises (λ (t : Tag). t.stamp) (map mark_tag (marks_in channels n))
 rises_at [] all n = tt
 rises_at (c ∷ channels) all zero = rises_of c.marks all.0.rise
 rises_at (c ∷ channels) all (suc n) = rises_at channels all.1 n
 
 -- the log is as long as the last mark says
-whole_at : (channels : List LedgeredView) → AllMarked (helds_of channels) (line_marks_of channels)
+whole_at : (channels : List LineChanView) → AllMarked (helds_of channels) (line_marks_of channels)
     → AreClean (helds_of channels) → (n : ℕ) → length (logs_in channels n) ≤ last_len (marks_in channels n)
 whole_at [] all clean n = omega arith
 whole_at (c ∷ channels) all clean zero = omega (arith, all.0.len, clean 0 c.held (omega arith))
@@ -81,7 +81,7 @@ whole_at (c ∷ channels) all clean (suc n) =
     whole_at channels all.1 (λ k d lt. clean (suc k) d (omega (arith, lt))) n
 
 -- there are no more marks than turns
-counted_at : (k : ℕ) (channels : List LedgeredView) (seats : List (List CheckedView))
+counted_at : (k : ℕ) (channels : List LineChanView) (seats : List (List CheckedView))
     → MarksCount (line_marks_of channels) (all_uses_from k (length channels) seats) → (n : ℕ)
     → length (marks_in channels n) ≤ uses_all (k + n) seats
 counted_at k [] seats count n = omega arith
@@ -92,7 +92,7 @@ counted_at k (c ∷ channels) seats count (suc n) =
     omega (arith, counted_at (suc k) channels seats count.1 n, ap (λ j. uses_all j seats) e)
 
 -- the receipts of a seat are in turn
-own_at : (seat from : ℕ) (receipts : List Receipt) → IsOwn seat from receipts → (n : ℕ) (receipt : Receipt)
+own_at : (seat from : ℕ) (receipts : List Receipt) → AreReceiptsOf seat from receipts → (n : ℕ) (receipt : Receipt)
     → slice_get receipts n ≡ Some receipt → (receipt.tag.seat ≡ seat) × (receipt.tag.serial ≡ from + n)
 own_at seat from [] own n receipt at = absurd (cc)
 own_at seat from (r ∷ receipts) own zero receipt at =
@@ -116,7 +116,7 @@ stamp_next least last (r ∷ receipts) rise (suc n) one next at at' =
     let e : suc (n + 1) ≡ suc n + 1 = omega arith in
     stamp_next r.tag.stamp last receipts rise.1 n one next at (ap (slice_get (r ∷ receipts)) e ∙ at')
 
-in_turn_of : (seat last : ℕ) (receipts : List Receipt) → IsOwn seat 0 receipts → StampsRise 0 last receipts
+in_turn_of : (seat last : ℕ) (receipts : List Receipt) → AreReceiptsOf seat 0 receipts → StampsRise 0 last receipts
     → IsInTurn seat receipts
 in_turn_of seat last receipts own rise = record {
   own = λ k d lt. (own_at seat 0 receipts own k (slice_index_or receipts k d) (slice_get-get_or receipts k d lt)).0;
@@ -128,28 +128,29 @@ in_turn_of seat last receipts own rise = record {
   stamps = λ n one next at at'. stamp_next 0 last receipts rise n one next at at';
 }
 
-own_from : (from : ℕ) (seats : List (List Receipt)) → AreOwn from seats → (n : ℕ) (own : List Receipt)
-    → slice_get seats n ≡ Some own → IsOwn (from + n) 0 own
+own_from : (from : ℕ) (seats : List (List Receipt)) → AreReceiptsOfAll from seats → (n : ℕ) (own : List Receipt)
+    → slice_get seats n ≡ Some own → AreReceiptsOf (from + n) 0 own
 own_from from [] are n own at = absurd (cc)
 own_from from (rs ∷ seats) are zero own at =
     let is : rs ≡ own = cc in
     let e : from ≡ from + 0 = omega arith in
-    subst (λ k. IsOwn k 0 own) e (subst (IsOwn from 0) is are.0)
+    subst (λ k. AreReceiptsOf k 0 own) e (subst (AreReceiptsOf from 0) is are.0)
 own_from from (rs ∷ seats) are (suc n) own at =
     let e : suc from + n ≡ from + suc n = omega arith in
-    subst (λ k. IsOwn k 0 own) e (own_from (suc from) seats are.1 n own at)
+    subst (λ k. AreReceiptsOf k 0 own) e (own_from (suc from) seats are.1 n own at)
 
-turns_of : (left : List Sitting) (receipts : List (List Receipt)) → AreTheirs left receipts → AreInTurn receipts
+turns_of : (left : List SeatCommits) (receipts : List (List Receipt)) → AreTheirs left receipts → AreInTurn receipts
 turns_of left receipts are n own at =
     let its = are.each n own at in
-    in_turn_of n its.seat.stamp own (subst (λ k. IsOwn k 0 own) (zero-add n) (own_from 0 receipts are.own n own at))
+    in_turn_of n its.seat.stamp own (subst (λ k. AreReceiptsOf k 0 own) (zero-add n)
+    (own_from 0 receipts are.own n own at))
     its.stamps
 
 -- the log of a channel by its number
-pub log_held : (channels : List LedgeredView) (n : ℕ)
+pub log_held : (channels : List LineChanView) (n : ℕ)
     → logs_in channels n ≡ (slice_index_or (helds_of channels) n missing).logged.log
 log_held channels n = ap (λ (h : ChanView). h.logged.log)
-    (sym (get_or-map (λ (c : LedgeredView). c.held) channels n no_channel))
+    (sym (get_or-map (λ (c : LineChanView). c.held) channels n no_channel))
 
 -- an account shows the channel that its log leaves
 shows : (decl : Decl) (amount : ℕ) (log : List Entry) (marks : List Mark) (account : Account)
@@ -172,12 +173,12 @@ shows decl amount log marks account is same long =
     }
 
 -- the report of a table whose seats are all back is one history
-pub one_history_of : (decls : List Decl) (channels : List LedgeredView) (left : List Sitting)
+pub one_history_of : (decls : List Decl) (channels : List LineChanView) (left : List SeatCommits)
     (accounts : List Account) (receipts : List (List Receipt)) (plans : List (List CheckedView)) (made : List ℕ)
     → AreAccounts decls (helds_of channels) (length channels) accounts → AreClean (helds_of channels)
     → AllMarked (helds_of channels) (line_marks_of channels) → MarksCount (line_marks_of channels) made
     → made ≡ all_uses_from 0 (length channels) plans → AreTheirs left receipts → AreEven plans receipts
-    → AreRanBy left plans → AllStand decls (logs_in channels) (marks_in channels) (events_from 0 plans receipts)
+    → AreRanBy left plans → ArePlacedEvents decls (logs_in channels) (marks_in channels) (events_from 0 plans receipts)
     → IsOneHistory decls left (record { accounts = accounts; receipts = receipts })
 one_history_of decls channels left accounts receipts plans made are clean all count same theirs even ran placed =
     record { plans = plans; many = even_length plans receipts even; ran = ran; order = found.0; one = found.1 }
@@ -251,9 +252,9 @@ from_push seat (ps ∷ plans) (rs ∷ receipts) one own even event h =
 pub all_stand_more : (decls : List Decl) (logs : Logs) (marks : ℕ → List Mark) (plans plans' : List (List CheckedView))
     (receipts receipts' : List (List Receipt)) (one : List CheckedView) (own : List Receipt) (number : ℕ)
     → plans' ≡ plans ++ one ∷ [] → receipts' ≡ receipts ++ own ∷ [] → AreEven plans receipts
-    → number ≡ length plans → AllStand decls logs marks (events_from 0 plans receipts)
-    → AllStand decls logs marks (events_of number 0 one own)
-    → AllStand decls logs marks (events_from 0 plans' receipts')
+    → number ≡ length plans → ArePlacedEvents decls logs marks (events_from 0 plans receipts)
+    → ArePlacedEvents decls logs marks (events_of number 0 one own)
+    → ArePlacedEvents decls logs marks (events_from 0 plans' receipts')
 all_stand_more decls logs marks plans plans' receipts receipts' one own number push push' even is all last event h =
     ⊎_elim (λ (l : Has (events_from 0 plans receipts) event). all event l)
     (λ (r : Has (events_of (0 + length plans) 0 one own) event).
@@ -262,7 +263,7 @@ all_stand_more decls logs marks plans plans' receipts receipts' one own number p
     (subst (λ (rs : List (List Receipt)). Has (events_from 0 (plans ++ one ∷ []) rs) event) push'
     (subst (λ (ps : List (List CheckedView)). Has (events_from 0 ps receipts') event) push h)))
 
-pub ran_more : (left : List Sitting) (plans plans' : List (List CheckedView)) (one : List CheckedView)
+pub ran_more : (left : List SeatCommits) (plans plans' : List (List CheckedView)) (one : List CheckedView)
     → plans' ≡ plans ++ one ∷ [] → AreRanBy left plans → IsRanBy left (length plans) one → AreRanBy left plans'
 ran_more left plans plans' one push ran last n own at =
     elim (get_push plans one n own (ap (λ ps. slice_get ps n) (sym push) ∙ at)) [

@@ -29,7 +29,7 @@ use Rattle.txc_txn_history.proofs.Turns.{has_either}
 use Rattle.txc_table_line.specs.SeatShare.{SeatShareView}
 use Rattle.txc_table_lines.specs.Committed.{AreCommitted, CountsCommit, HasItsMark}
 use Rattle.txc_table_lines.specs.Lines.{share_at}
-use Rattle.txc_table.specs.Seat.{AllStand, SeesMore, StandsFor, seen_logs, seen_marks}
+use Rattle.txc_table.specs.Seat.{ArePlacedEvents, SeesMore, IsPlacedEvent, seen_logs, seen_marks}
 
 -- whose transaction a mark is of, and how long the log was then
 abbrev pub mark_tag : Mark → Tag
@@ -46,7 +46,7 @@ pub stands_kept : (decls : List Decl) (amounts : ℕ → ℕ) (tag : Tag) (plan 
     → RanSettled (kept_tag m tag plan.declared) plan.declared (transaction m tag plan.declared plan.steps)
     (RanKept receipt) m left
     → ((n : ℕ) → AreCommitted plan.declared m left receipt before after n)
-    → StandsFor decls (seen_logs after) (seen_marks after) (record {
+    → IsPlacedEvent decls (seen_logs after) (seen_marks after) (record {
       seat = tag.seat;
       plan = plan;
       before = tag.stamp;
@@ -60,7 +60,7 @@ stands_kept decls amounts tag plan m left before after receipt there names lawfu
 
     of : (o : Ending) → transaction m tag plan.declared plan.steps ≡ o
         → RanSettled (kept_tag m tag plan.declared) plan.declared o (RanKept receipt) m left
-        → StandsFor decls (seen_logs after) (seen_marks after) event
+        → IsPlacedEvent decls (seen_logs after) (seen_marks after) event
     of (Again cause) is gave = absurd gave
     of (Aborted stop) is gave = absurd gave
     of (Kept s) is gave =
@@ -108,8 +108,8 @@ stands_kept decls amounts tag plan m left before after receipt there names lawfu
 
 -- .. and goes on to where more is seen
 pub all_stand_on : (decls : List Decl) (logs logs' : Logs) (marks marks' : ℕ → List Mark) (events : List Event)
-    → SeesMore logs logs' → ((n : ℕ) → IsPrefix (marks n) (marks' n)) → AllStand decls logs marks events
-    → AllStand decls logs' marks' events
+    → SeesMore logs logs' → ((n : ℕ) → IsPrefix (marks n) (marks' n)) → ArePlacedEvents decls logs marks events
+    → ArePlacedEvents decls logs' marks' events
 all_stand_on decls logs logs' marks marks' events grew more all event h = record {
   within = (all event h).within;
   placed = placed_on mark_tag mark_len (decl_at decls) logs logs' marks marks' event (λ n on. grew n) (λ n on. more n)
@@ -126,15 +126,15 @@ last_stamped least last (r ∷ receipts) rise = last_stamped r.tag.stamp last re
 pub all_stand_push : (decls : List Decl) (logs : Logs) (marks : ℕ → List Mark) (seat stamp : ℕ)
     (plans : List CheckedView) (receipts : List Receipt) (plan : CheckedView) (receipt : Receipt)
     → length plans ≡ length receipts → StampsRise 0 stamp receipts
-    → AllStand decls logs marks (events_of seat 0 plans receipts)
-    → StandsFor decls logs marks (record { seat = seat; plan = plan; before = stamp; receipt = receipt })
-    → AllStand decls logs marks (events_of seat 0 (plans ++ plan ∷ []) (receipts ++ receipt ∷ []))
+    → ArePlacedEvents decls logs marks (events_of seat 0 plans receipts)
+    → IsPlacedEvent decls logs marks (record { seat = seat; plan = plan; before = stamp; receipt = receipt })
+    → ArePlacedEvents decls logs marks (events_of seat 0 (plans ++ plan ∷ []) (receipts ++ receipt ∷ []))
 all_stand_push decls logs marks seat stamp plans receipts plan receipt even rise all one event h =
     ⊎_elim
     (λ (l : Has (events_of seat 0 plans receipts) event). all event l)
     (λ (r : Has (last ∷ []) event). ⊎_elim
-    (λ (e : last ≡ event). subst (StandsFor decls logs marks) e
-    (subst (λ n. StandsFor decls logs marks (record {
+    (λ (e : last ≡ event). subst (IsPlacedEvent decls logs marks) e
+    (subst (λ n. IsPlacedEvent decls logs marks (record {
       seat = seat;
       plan = plan;
       before = n;

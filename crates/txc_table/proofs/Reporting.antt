@@ -15,31 +15,31 @@ use Rattle.txc_table_report.proofs.Gathering.{gathered, get_there, none_there}
 use Rattle.txc_table_report.proofs.Standing.{all_since}
 use Rattle.txc_table_report.proofs.Weighing.{summed, taken_by_seats}
 use Rattle.txc_table_report.specs.Finished.{AreTheirs, IsReport}
-use Rattle.txc_table_report.specs.Gathered.{IsGathered, SeatsStand, count_all, log_in, logs_of, totals_from}
+use Rattle.txc_table_report.specs.Gathered.{IsGathered, SeatsAreInLogs, count_all, log_in, logs_of, totals_from}
 use Rattle.txc_table_line.specs.Account.{IsAccount}
 use Rattle.txc_table_line.specs.Line.{decl_at}
-use Rattle.txc_table_seat.specs.Seated.{Sitting}
+use Rattle.txc_table_seat.specs.Seated.{SeatCommits}
 use Rattle.txc_txn.specs.declared.receipt.Receipt.{Receipt}
 use Rattle.txc_txn.specs.declared.report.Report.{Report}
 use Rattle.txc_txn.specs.Plain.{missing}
-use Rattle.txc_table_line.specs.Ledgered.{LedgeredView}
+use Rattle.txc_table_line.specs.LineChan.{LineChanView}
 use Rattle.txc_table_line.specs.Line.{LineId}
 use Rattle.txc_table_lines.specs.Accounted.{AreAccounts}
 use Rattle.txc_table_lines.specs.Locked.{AreClean, LogsCount, line_decls_of as held_decls, helds_of, lines_of}
-use Rattle.txc_table.specs.Closing.{CanClose, IsStanding, IsStandingInSummary, logs_in}
+use Rattle.txc_table.specs.Closing.{CanClose, IsConsistentReport, IsConsistentSummary, logs_in}
 use Rattle.txc_table.specs.Finished.{IsFinished, IsFinishedInSummary}
-use Rattle.txc_table.specs.Refused.{AreAllBack, AreBack, IsMissing}
-use Rattle.txc_table.specs.Seat.{AreOf, LeftSeatView, sittings_of}
-use Rattle.txc_table.specs.Table.{IsTabled, MembersView, TableView, line_decls, decls_of, table_lines}
+use Rattle.txc_table.specs.Refused.{HaveAllNumbers, AreAllSeats, IsMissing}
+use Rattle.txc_table.specs.Seat.{AreOf, DepartedSeatView, commits_of}
+use Rattle.txc_table.specs.Table.{IsValidTable, TableSeatsView, TableView, line_decls, decls_of, table_lines}
 use Rattle.txc_table.proofs.OneHistory.{log_held}
 
 -- the declarations of channels are those of their lines
-pub declared_in : (channels : List LedgeredView) → held_decls channels ≡ line_decls (lines_of channels)
-declared_in channels = sym (map-map (λ (line : LineId). line.decl) (λ (c : LedgeredView). c.line) channels)
+pub declared_in : (channels : List LineChanView) → held_decls channels ≡ line_decls (lines_of channels)
+declared_in channels = sym (map-map (λ (line : LineId). line.decl) (λ (c : LineChanView). c.line) channels)
 
 -- there are as many lines as channels
-pub lines_long : (channels : List LedgeredView) → length (lines_of channels) ≡ length channels
-lines_long channels = length-map channels (λ (c : LedgeredView). c.line)
+pub lines_long : (channels : List LineChanView) → length (lines_of channels) ≡ length channels
+lines_long channels = length-map channels (λ (c : LineChanView). c.line)
 
 logs_at : (k m : ℕ) (helds : List ChanView) (seats : List (List Receipt)) (chan : ℕ)
     → LogsCount helds (totals_from k m seats) → chan < m
@@ -64,7 +64,7 @@ with_amount decl amount amount' account is long = record {
 }
 
 -- the accounts and the receipts of all seats are the report
-pub reported : (decls : List Decl) (helds : List ChanView) (left : List Sitting) (accounts : List Account)
+pub reported : (decls : List Decl) (helds : List ChanView) (left : List SeatCommits) (accounts : List Account)
     (receipts : List (List Receipt)) (channels seats : ℕ) (amounts : List ℕ)
     → AreAccounts decls helds channels accounts → LogsCount helds amounts
     → amounts ≡ totals_from 0 channels receipts → AreTheirs left receipts
@@ -89,13 +89,13 @@ reported decls helds left accounts receipts channels seats amounts are count sam
 }
 
 -- the entries in the channels' logs are those in their accounts
-pub reported_stand : (decls : List Decl) (channels : List LedgeredView) (accounts : List Account)
+pub reported_stand : (decls : List Decl) (channels : List LineChanView) (accounts : List Account)
     (seats : List (List Receipt)) → AreAccounts decls (helds_of channels) (length channels) accounts
-    → SeatsStand (logs_in channels) seats → SeatsStand (logs_of accounts) seats
+    → SeatsAreInLogs (logs_in channels) seats → SeatsAreInLogs (logs_of accounts) seats
 reported_stand decls channels accounts seats are stand s receipts here =
     all_since (logs_in channels) (logs_of accounts) since receipts (stand s receipts here)
   where
-    none : (cs : List LedgeredView) (n : ℕ) → length cs ≤ n → logs_in cs n ≡ []
+    none : (cs : List LineChanView) (n : ℕ) → length cs ≤ n → logs_in cs n ≡ []
     none [] n past = refl
     none (c ∷ cs) zero past = absurd (omega (arith, past))
     none (c ∷ cs) (suc n) past = none cs n (omega (arith, past))
@@ -124,10 +124,10 @@ there_or_not [] chan = inr refl
 there_or_not (a ∷ rest) zero = inl (a, refl)
 there_or_not (a ∷ rest) (suc chan) = there_or_not rest chan
 
-gathers : (decls : List Decl) (channels seats : ℕ) (left : List Sitting) (accounts : List Account)
+gathers : (decls : List Decl) (channels seats : ℕ) (left : List SeatCommits) (accounts : List Account)
     (receipts : List (List Receipt))
     → IsReport decls channels seats left (record { accounts = accounts; receipts = receipts })
-    → SeatsStand (logs_of accounts) receipts → IsGathered (logs_of accounts) receipts
+    → SeatsAreInLogs (logs_of accounts) receipts → IsGathered (logs_of accounts) receipts
 gathers decls channels seats left accounts receipts is stand =
     gathered (logs_of accounts) receipts is.theirs.own stand
     (λ chan. elim (there_or_not accounts chan) [
@@ -146,27 +146,28 @@ as_many_kinds lines kinds declared = omega (
 )
 
 -- the report of a table whose receipts' acts are all in its logs
-pub finished : {shelves : Bool} (inside table : TableView) (left : List LeftSeatView) (report : Report) → inside ≡ table
-    → IsTabled shelves inside.lines.all inside.made inside.kinds inside.seats
-    → IsStanding inside.lines.all inside.seats left report → IsFinished table left report
+pub finished : {shelves : Bool} (inside table : TableView) (left : List DepartedSeatView) (report : Report) → inside
+    ≡ table
+    → IsValidTable shelves inside.lines.all inside.made inside.kinds inside.seats
+    → IsConsistentReport inside.lines.all inside.seats left report → IsFinished table left report
 finished inside table left report is tabled standing =
-    let gathered = gathers (decls_of inside.lines) (length inside.lines.all) inside.seats (sittings_of left)
+    let gathered = gathers (decls_of inside.lines) (length inside.lines.all) inside.seats (commits_of left)
     report.accounts report.receipts standing.its_report standing.stand in
     subst (λ (t : TableView). IsFinished t left report) is (record {
-      its_report = subst (λ n. IsReport (decls_of inside.lines) n inside.seats (sittings_of left) report)
+      its_report = subst (λ n. IsReport (decls_of inside.lines) n inside.seats (commits_of left) report)
           (as_many_kinds inside.lines.all inside.kinds tabled.declared) standing.its_report;
       gathered = gathered;
       summed = summed (logs_of report.accounts) report.receipts gathered;
-      once = taken_by_seats (decls_of inside.lines) (length inside.lines.all) inside.seats (sittings_of left)
+      once = taken_by_seats (decls_of inside.lines) (length inside.lines.all) inside.seats (commits_of left)
           report.accounts report.receipts standing.its_report gathered;
       history = standing.history;
     })
 
 -- .. if its end is in summary
-pub finished_in_brief : {shelves : Bool} (inside table : TableView) (left : List LeftSeatView)
+pub finished_in_brief : {shelves : Bool} (inside table : TableView) (left : List DepartedSeatView)
     (summaries : List Summary)
-    → inside ≡ table → IsTabled shelves inside.lines.all inside.made inside.kinds inside.seats
-    → IsStandingInSummary inside.lines.all inside.seats left summaries → IsFinishedInSummary table left summaries
+    → inside ≡ table → IsValidTable shelves inside.lines.all inside.made inside.kinds inside.seats
+    → IsConsistentSummary inside.lines.all inside.seats left summaries → IsFinishedInSummary table left summaries
 finished_in_brief inside table left summaries is tabled standing = record {
   report = standing.report;
   finished = finished inside table left standing.report is tabled standing.standing;
@@ -174,40 +175,41 @@ finished_in_brief inside table left summaries is tabled standing = record {
 }
 
 -- a table can be closed whose seats are all back
-pub can_close : {shelves : Bool} {made : List ChanView} {kinds : List Kind} (table : TableView) (members : MembersView)
-    (channels : List LedgeredView) (left : List LeftSeatView)
+pub can_close : {shelves : Bool} {made : List ChanView} {kinds : List Kind} (table : TableView)
+    (table_seats : TableSeatsView)
+    (channels : List LineChanView) (left : List DepartedSeatView)
     → table ≡ record {
-      lines = table_lines members (lines_of channels);
+      lines = table_lines table_seats (lines_of channels);
       made = made;
       kinds = kinds;
-      seats = members.seats;
-    } → IsTabled shelves (lines_of channels) made kinds members.seats → AreClean (helds_of channels)
-    → AreBack table.lines table.seats left → CanClose channels members left
-can_close table members channels left is tabled clean back = record {
+      seats = table_seats.seats;
+    } → IsValidTable shelves (lines_of channels) made kinds table_seats.seats → AreClean (helds_of channels)
+    → AreAllSeats table.lines table.seats left → CanClose channels table_seats left
+can_close table table_seats channels left is tabled clean back = record {
   seated = tabled.seated;
   clean = clean;
   some = tabled.some;
-  back = subst (λ (t : TableView). AreBack t.lines t.seats left) is back;
+  back = subst (λ (t : TableView). AreAllSeats t.lines t.seats left) is back;
 }
 
 -- what was found of the seats that were looked at is so of the table's
-pub all_back : (many : ℕ) (table : TableView) (seen left : List LeftSeatView) → many ≡ table.seats → seen ≡ left
-    → AreAllBack many (sittings_of seen) → AreAllBack table.seats (sittings_of left)
+pub all_back : (many : ℕ) (table : TableView) (seen left : List DepartedSeatView) → many ≡ table.seats → seen ≡ left
+    → HaveAllNumbers many (commits_of seen) → HaveAllNumbers table.seats (commits_of left)
 all_back many table seen left same all back =
-    subst (λ n. AreAllBack n (sittings_of left)) same
-    (subst (λ (ss : List LeftSeatView). AreAllBack many (sittings_of ss)) all back)
+    subst (λ n. HaveAllNumbers n (commits_of left)) same
+    (subst (λ (ss : List DepartedSeatView). HaveAllNumbers many (commits_of ss)) all back)
 
 -- .. so they are the seats of the table
-pub are_back : (many : ℕ) (table : TableView) (seen left : List LeftSeatView) → many ≡ table.seats → seen ≡ left
-    → AreAllBack many (sittings_of seen) → AreOf table.lines left → AreBack table.lines table.seats left
+pub are_back : (many : ℕ) (table : TableView) (seen left : List DepartedSeatView) → many ≡ table.seats → seen ≡ left
+    → HaveAllNumbers many (commits_of seen) → AreOf table.lines left → AreAllSeats table.lines table.seats left
 are_back many table seen left same all back of = record {
   of = of;
   all = all_back many table seen left same all back;
 }
 
 -- .. and none is missing
-pub not_missing : (many : ℕ) (table : TableView) (seen left : List LeftSeatView) → many ≡ table.seats → seen ≡ left
-    → AreAllBack many (sittings_of seen) → ⊥ ↔ IsMissing table.seats (sittings_of left)
+pub not_missing : (many : ℕ) (table : TableView) (seen left : List DepartedSeatView) → many ≡ table.seats → seen ≡ left
+    → HaveAllNumbers many (commits_of seen) → ⊥ ↔ IsMissing table.seats (commits_of left)
 not_missing many table seen left same all back =
     let there = all_back many table seen left same all back in
     (λ no. absurd no, λ missing. omega (arith, there missing.number missing.below, missing.none))

@@ -15,8 +15,8 @@ use Rattle.txc_base_ledger.proofs.share.Share.TheSendSync as share
 use Rattle.txc_table_seat.proofs.Sends.{history_sends, receipt_field_sends}
 use Rattle.txc_table_seat.specs.declared.receipts.Receipts as receipts
 use Rattle.txc_table_lines.proofs.Sends.{lines_sync, seat_shares_send}
-use Rattle.txc_table.specs.contracts.left_seat.LeftSeat as left
-use Rattle.txc_table.specs.contracts.members.Members as members
+use Rattle.txc_table.specs.contracts.departed_seat.DepartedSeat as left
+use Rattle.txc_table.specs.contracts.table_seats.TableSeats as table_seats
 use Rattle.txc_table.specs.contracts.seat.Seat as seat
 use Rattle.txc_table.specs.contracts.shelves.Shelves as shelves
 use Rattle.txc_table.specs.contracts.table.Table as table
@@ -33,11 +33,11 @@ bell_syncs =
       ),
     )))
 
-members_sync : IsSync members.the_row
+members_sync : IsSync table_seats.the_row
 members_sync =
     view_sync _ _ _ _ _
-    (recorded_sync members.TheInside.the_field.row _ _ members.TheInside.the_type.to_one
-    (struct_sync (shape members.TheInside.the_type) (search sendable, (search crosses, tt))))
+    (recorded_sync table_seats.TheInside.the_field.row _ _ table_seats.TheInside.the_type.to_one
+    (struct_sync (shape table_seats.TheInside.the_type) (search sendable, (search crosses, tt))))
 
 module _ (K : RattleType) (log : keep.Ghosts K.Denot) (log_sends : IsSend K) where
   shelves_sync : IsSync (shelves.the_row K log)

@@ -26,7 +26,7 @@ use Rattle.txc_txn.specs.declared.deed.Deed.{Deed}
 use Rattle.txc_txn.specs.declared.ran.Ran.{Ran}
 use Rattle.txc_txn.specs.declared.ran.Ran.TheVariants.{Kept, Retry}
 use Rattle.txc_txn.specs.declared.receipt.Receipt.{Receipt}
-use Rattle.txc_txn.specs.InLog.{ReceiptStands}
+use Rattle.txc_txn.specs.InLog.{ReceiptIsInLog}
 use Rattle.txc_txn.specs.Maps.{Map}
 use Rattle.txc_txn.specs.Run.{IfKept, PlacesRise, RanSettled, count_deeds}
 use Rattle.txc_txn.specs.Transaction.{kept_tag, transaction}
@@ -34,16 +34,17 @@ use Rattle.txc_txn.proofs.Placing.{get_front}
 use Rattle.txc_txn_history.specs.Events.{events_of}
 use Rattle.txc_txn_history.specs.Placed.{is_among}
 use Rattle.txc_txn_history.proofs.Locality.{among_contains, contains_among}
-use Rattle.txc_table_report.specs.Gathered.{ReceiptsStand}
+use Rattle.txc_table_report.specs.Gathered.{ReceiptsAreInLogs}
 use Rattle.txc_table_report.proofs.Standing.{all_since, stand_more}
-use Rattle.txc_table_seat.specs.Seated.{Sitting, StampsRise, count, next_tag, with_receipt}
+use Rattle.txc_table_seat.specs.Seated.{SeatCommits, StampsRise, count, next_tag, with_receipt}
 use Rattle.txc_table_line.specs.Line.{LineId}
 use Rattle.txc_table_line.specs.SeatShare.{SeatShareView}
 use Rattle.txc_table_lines.specs.Committed.{AreCommitted, HasItsMark, HasNoneOutside}
-use Rattle.txc_table_lines.specs.Lines.{AreTrue, OnlyGrew, line_ids, share_at}
+use Rattle.txc_table_lines.specs.Lines.{AreValidShares, OnlyGrew, line_ids, share_at}
 use Rattle.txc_table_lines.specs.OneOperation.{AreKnown}
 use Rattle.txc_table.specs.Attempt.{IsKeptWith, OnlyMarked}
-use Rattle.txc_table.specs.Seat.{AllStand, SeatView, IsAccountTo, IsSeated, StandsFor, log_at, seen_at, seen_in}
+use Rattle.txc_table.specs.Seat.{ArePlacedEvents, SeatView, IsAccountTo, IsSeated, IsPlacedEvent, log_at, seen_at}
+use Rattle.txc_table.specs.Seat.{seen_in}
 use Rattle.txc_table.specs.Seat.{seen_logs, seen_marks}
 use Rattle.txc_table.specs.Table.{TableLines, line_decls, decls_of}
 use Rattle.txc_table.proofs.Placing.{all_stand_on, all_stand_push, stands_kept, uses_push}
@@ -108,7 +109,7 @@ pub kept_with : (tag : Tag) (plan : CheckedView) (m left : Map) (before after : 
     (transaction m tag plan.declared plan.steps) ran m left)
     → IfOk result (λ ran. IfKept ran (λ receipt. (n : ℕ) → AreCommitted plan.declared m left receipt before after n))
     → IfOk result (λ ran. IfKept ran (λ receipt. OnlyGrew before after))
-    → IfOk result (λ ran. IfKept ran (ReceiptStands (seen_logs after)))
+    → IfOk result (λ ran. IfKept ran (ReceiptIsInLog (seen_logs after)))
     → IfOk result (λ ran. IfKept ran (HasNoneOutside plan.declared))
     → IfOk result (λ ran. IfKept ran PlacesRise)
     → IfOk result (λ ran. IfKept ran (λ receipt. tag.stamp < receipt.tag.stamp))
@@ -151,27 +152,28 @@ same_many before after lines = omega (
 
 -- the invariant of a seat after one more receipt
 pub seated_more : {channels parts : ℕ} (tag : Tag) (plan : CheckedView) (before after : List SeatShareView)
-    (sitting sitting' : Sitting) (receipt : Receipt) → IsSeated before sitting channels parts → IsKeptWith tag plan
+    (commits commits' : SeatCommits) (receipt : Receipt) → IsSeated before commits channels parts → IsKeptWith tag plan
     before after receipt
-    → line_ids after ≡ line_ids before → tag ≡ next_tag sitting → length sitting.plans ≡ length sitting.receipts
-    → StampsRise 0 sitting.stamp sitting.receipts → sitting' ≡ with_receipt sitting plan receipt
-    → IsSeated after sitting' channels parts
-seated_more {channels} {parts} tag plan before after sitting sitting' receipt seated is lines tagged even rise now =
-    subst (λ (s : Sitting). IsSeated after s channels parts) (sym now) (record {
+    → line_ids after ≡ line_ids before → tag ≡ next_tag commits → length commits.plans ≡ length commits.receipts
+    → StampsRise 0 commits.stamp commits.receipts → commits' ≡ with_receipt commits plan receipt
+    → IsSeated after commits' channels parts
+seated_more {channels} {parts} tag plan before after commits commits' receipt seated is lines tagged even rise now =
+    subst (λ (s : SeatCommits). IsSeated after s channels parts) (sym now) (record {
       counted = λ n. is.counted n ∙ ap (λ k. k + count_deeds n receipt.acts) (seated.counted n)
-          ∙ sym (count_push n sitting.receipts receipt);
-      stand = stand_more (seen_logs after) sitting.receipts (sitting.receipts ++ receipt ∷ []) receipt refl
-          (all_since (seen_logs before) (seen_logs after) is.grew sitting.receipts seated.stand) is.stand;
+          ∙ sym (count_push n commits.receipts receipt);
+      stand = stand_more (seen_logs after) commits.receipts (commits.receipts ++ receipt ∷ []) receipt refl
+          (all_since (seen_logs before) (seen_logs after) is.grew commits.receipts seated.stand) is.stand;
       made = λ n. is.made n ∙ ap (λ k. k + one_if (is_among plan.declared n)) (seated.made n)
-          ∙ sym (uses_push n sitting.plans plan);
-      placed = all_stand_push (line_decls (line_ids after)) (seen_logs after) (seen_marks after) sitting.number
-          sitting.stamp sitting.plans sitting.receipts plan receipt even rise
-          (subst (λ (ls : List LineId). AllStand (line_decls ls) (seen_logs after) (seen_marks after)
-          (events_of sitting.number 0 sitting.plans sitting.receipts)) (sym lines)
+          ∙ sym (uses_push n commits.plans plan);
+      placed = all_stand_push (line_decls (line_ids after)) (seen_logs after) (seen_marks after) commits.number
+          commits.stamp commits.plans commits.receipts plan receipt even rise
+          (subst (λ (ls : List LineId). ArePlacedEvents (line_decls ls) (seen_logs after) (seen_marks after)
+          (events_of commits.number 0 commits.plans commits.receipts)) (sym lines)
           (all_stand_on (line_decls (line_ids before)) (seen_logs before) (seen_logs after) (seen_marks before)
-          (seen_marks after) (events_of sitting.number 0 sitting.plans sitting.receipts) is.grew is.marked
+          (seen_marks after) (events_of commits.number 0 commits.plans commits.receipts) is.grew is.marked
           seated.placed))
-          (subst (λ (t : Tag). StandsFor (line_decls (line_ids after)) (seen_logs after) (seen_marks after) (record {
+          (subst (λ (t : Tag). IsPlacedEvent (line_decls (line_ids after)) (seen_logs after) (seen_marks after)
+          (record {
             seat = t.seat;
             plan = plan;
             before = t.stamp;
@@ -188,17 +190,17 @@ SameButSeen before after = (n : ℕ) → ((share_at after n).line ≡ (share_at 
     × ((share_at after n).marks ≡ (share_at before n).marks)
 
 -- the invariant of a seat that has seen more
-pub seated_on : {channels parts : ℕ} (before after : List SeatShareView) (sitting : Sitting)
-    → IsSeated before sitting channels parts → OnlyGrew before after → SameButSeen before after
-    → line_ids after ≡ line_ids before → IsSeated after sitting channels parts
-seated_on before after sitting seated grew same lines = record {
+pub seated_on : {channels parts : ℕ} (before after : List SeatShareView) (commits : SeatCommits)
+    → IsSeated before commits channels parts → OnlyGrew before after → SameButSeen before after
+    → line_ids after ≡ line_ids before → IsSeated after commits channels parts
+seated_on before after commits seated grew same lines = record {
   counted = λ n. (same n).1 ∙ seated.counted n;
-  stand = all_since (seen_logs before) (seen_logs after) grew sitting.receipts seated.stand;
+  stand = all_since (seen_logs before) (seen_logs after) grew commits.receipts seated.stand;
   made = λ n. (same n).2 ∙ seated.made n;
-  placed = subst (λ (ls : List LineId). AllStand (line_decls ls) (seen_logs after) (seen_marks after)
-      (events_of sitting.number 0 sitting.plans sitting.receipts)) (sym lines)
+  placed = subst (λ (ls : List LineId). ArePlacedEvents (line_decls ls) (seen_logs after) (seen_marks after)
+      (events_of commits.number 0 commits.plans commits.receipts)) (sym lines)
       (all_stand_on (line_decls (line_ids before)) (seen_logs before) (seen_logs after) (seen_marks before)
-      (seen_marks after) (events_of sitting.number 0 sitting.plans sitting.receipts) grew
+      (seen_marks after) (events_of commits.number 0 commits.plans commits.receipts) grew
       (λ n. subst (IsPrefix (seen_marks before n)) (sym (same n).3) ([], append-nil (seen_marks before n)))
       seated.placed);
   each = seated.each ∙ sym (same_many before after lines);
@@ -209,49 +211,49 @@ seated_on before after sitting seated grew same lines = record {
 pub few_more : (tag : Tag) (plan : CheckedView) (before after : List SeatShareView) (receipts : List Receipt)
     (receipt : Receipt)
     → ((n : ℕ) → (share_at before n).amount ≡ count n receipts) → IsKeptWith tag plan before after receipt
-    → AreTrue after → (n : ℕ) → count n receipts + count_deeds n receipt.acts ≤ GREATEST_NUMBER
+    → AreValidShares after → (n : ℕ) → count n receipts + count_deeds n receipt.acts ≤ GREATEST_NUMBER
 few_more tag plan before after receipts receipt counted is true_shares n =
     omega (arith, few after true_shares n, is.counted n, counted n)
   where
-    few : (shares : List SeatShareView) → AreTrue shares → (k : ℕ) → (share_at shares k).amount ≤ GREATEST_NUMBER
+    few : (shares : List SeatShareView) → AreValidShares shares → (k : ℕ) → (share_at shares k).amount ≤ GREATEST_NUMBER
     few [] all k = omega arith
     few (share ∷ shares) all zero = (all 0 (omega arith)).few
     few (share ∷ shares) all (suc k) = few shares (λ j below. all (suc j) (omega (arith, below))) k
 
 -- a snapshot of a line is one for the seat whose shares these are
-pub snapshot_by : {T : Type 0} {book many channels parts : ℕ} (of : ChanView → T) (shares after : List SeatShareView)
-    (sitting : Sitting) (seat : SeatView) (lines : TableLines) (chan : ℕ) (result : Result T Stop)
+pub snapshot_by : {T : Type 0} {ledger many channels parts : ℕ} (of : ChanView → T) (shares after : List SeatShareView)
+    (commits : SeatCommits) (seat : SeatView) (lines : TableLines) (chan : ℕ) (result : Result T Stop)
     → record {
-      sitting = sitting;
-      lines = record { book = book; seats = many; all = line_ids shares };
+      commits = commits;
+      lines = record { ledger = ledger; seats = many; all = line_ids shares };
       seen = seen_in shares;
-    } ≡ seat → seat.lines ≡ lines → IsSeated shares sitting channels parts
+    } ≡ seat → seat.lines ≡ lines → IsSeated shares commits channels parts
     → IfOk result (IsSnapshotOf of (share_at shares chan).line.decl (share_at shares chan).amount
     (share_at after chan).log)
-    → IfOk result (IsSnapshotOf of (decl_at (decls_of lines) chan) (count chan seat.sitting.receipts)
+    → IfOk result (IsSnapshotOf of (decl_at (decls_of lines) chan) (count chan seat.commits.receipts)
     (log_at (seen_in after) chan))
-snapshot_by of shares after sitting seat lines chan result view its seated snapshot =
+snapshot_by of shares after commits seat lines chan result view its seated snapshot =
     let same : line_ids shares ≡ lines.all = ap (λ (s : SeatView). s.lines.all) view
     ∙ ap (λ (l : TableLines). l.all) its in
     let decl : (share_at shares chan).line.decl ≡ decl_at (decls_of lines) chan =
     sym (decl_is shares chan) ∙ ap (λ (ls : List LineId). decl_at (line_decls ls) chan) same in
-    let amount : (share_at shares chan).amount ≡ count chan seat.sitting.receipts =
-    seated.counted chan ∙ ap (λ (s : SeatView). count chan s.sitting.receipts) view in
-    subst (λ d. IfOk result (IsSnapshotOf of d (count chan seat.sitting.receipts) (log_at (seen_in after) chan))) decl
+    let amount : (share_at shares chan).amount ≡ count chan seat.commits.receipts =
+    seated.counted chan ∙ ap (λ (s : SeatView). count chan s.commits.receipts) view in
+    subst (λ d. IfOk result (IsSnapshotOf of d (count chan seat.commits.receipts) (log_at (seen_in after) chan))) decl
     (subst (λ k. IfOk result (IsSnapshotOf of (share_at shares chan).line.decl k (log_at (seen_in after) chan))) amount
     (seen_by (λ logs. IfOk result (IsSnapshotOf of (share_at shares chan).line.decl (share_at shares chan).amount
     (logs chan))) after snapshot))
 
 -- an account whose log the seat has then seen is one to the seat
 pub account_to : (seat : SeatView) (decls : List Decl) (chan : ℕ) (log : List Entry) (result : Result Account Stop)
-    → ReceiptsStand (seen_at seat) seat.sitting.receipts → IsPrefix (seen_at seat chan) log
-    → IfOk result (IsSnapshotOf account_of (decl_at decls chan) (count chan seat.sitting.receipts) log)
+    → ReceiptsAreInLogs (seen_at seat) seat.commits.receipts → IsPrefix (seen_at seat chan) log
+    → IfOk result (IsSnapshotOf account_of (decl_at decls chan) (count chan seat.commits.receipts) log)
     → IfOk result (IsAccountTo seat decls chan)
 account_to seat decls chan log (Ok account) stand more snapshot =
     let seen : log ≡ account.log = sym snapshot.log_is ∙ sym (ap (λ (a : Account). a.log) snapshot.its) in
     let since : IsPrefix (seen_at seat chan) account.log = subst (IsPrefix (seen_at seat chan)) seen more in
     record {
-      lawful = subst (IsAccount (decl_at decls chan) (count chan seat.sitting.receipts)) (sym snapshot.its)
+      lawful = subst (IsAccount (decl_at decls chan) (count chan seat.commits.receipts)) (sym snapshot.its)
           snapshot.account;
       since = since;
       stand = λ n receipt here i deed there at.
@@ -263,7 +265,7 @@ account_to seat decls chan log (Ok account) stand more snapshot =
 account_to seat decls chan log (Err stop) stand more snapshot = tt
 
 -- the acts of a receipt that stands in logs that a seat has seen are in channels of which the seat has a share
-pub acts_inside : (shares : List SeatShareView) (receipt : Receipt) → ReceiptStands (seen_logs shares) receipt
+pub acts_inside : (shares : List SeatShareView) (receipt : Receipt) → ReceiptIsInLog (seen_logs shares) receipt
     → All (λ (deed : Deed). deed.chan < length shares) receipt.acts
 acts_inside shares receipt stand k d below =
     within shares _ _ _ (stand k _ (slice_get-get_or receipt.acts k d below))

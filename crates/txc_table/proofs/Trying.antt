@@ -20,7 +20,7 @@ use Rattle.txc_txn.specs.declared.receipt.Receipt.{Receipt}
 use Rattle.txc_txn.specs.Maps.{Map, kinds_of}
 use Rattle.txc_txn.specs.Run.{RanSettled}
 use Rattle.txc_txn.specs.Transaction.{Ending, Kept, Again, Aborted, kept_tag, transaction}
-use Rattle.txc_table_seat.specs.Seated.{Sitting, count}
+use Rattle.txc_table_seat.specs.Seated.{SeatCommits, count}
 use Rattle.txc_table_line.specs.Line.{LineId}
 use Rattle.txc_table_line.specs.SeatShare.{SeatShareView}
 use Rattle.txc_table_lines.specs.Lines.{AreSince, line_ids, share_at}
@@ -70,21 +70,21 @@ kinds_agree shares lines kinds m of declared found n below =
     ∙ sym (kind_at (line_decls lines) n here) ∙ ap (λ (ks : List Kind). slice_get ks n) (sym declared)
 
 -- channels that a seat found are lawful, and their logs begin with what the seat has seen
-pub found_by : {book many channels parts : ℕ} (shares : List SeatShareView) (sitting : Sitting) (seat : SeatView)
+pub found_by : {ledger many channels parts : ℕ} (shares : List SeatShareView) (commits : SeatCommits) (seat : SeatView)
     (lines : TableLines) (m : Map)
     → record {
-      sitting = sitting;
-      lines = record { book = book; seats = many; all = line_ids shares };
+      commits = commits;
+      lines = record { ledger = ledger; seats = many; all = line_ids shares };
       seen = seen_in shares;
-    } ≡ seat → seat.lines ≡ lines → IsSeated shares sitting channels parts → AreKnown shares m
-    → AreFound (decls_of lines) seat.sitting.receipts (seen_at seat) m
-found_by shares sitting seat lines m view of seated found =
-    subst (λ (s : SeatView). AreFound (decls_of lines) s.sitting.receipts (seen_at s) m) view (
+    } ≡ seat → seat.lines ≡ lines → IsSeated shares commits channels parts → AreKnown shares m
+    → AreFound (decls_of lines) seat.commits.receipts (seen_at seat) m
+found_by shares commits seat lines m view of seated found =
+    subst (λ (s : SeatView). AreFound (decls_of lines) s.commits.receipts (seen_at s) m) view (
       λ n below.
           (let within : n < length shares = omega (arith, below, decls_long shares lines.all same) in
           let decl : (share_at shares n).line.decl ≡ decl_at (decls_of lines) n
           = sym (decl_is shares n) ∙ ap (λ (ls : List LineId). decl_at (line_decls ls) n) same in
-          subst (λ d. IsKnown d (count n sitting.receipts) (m n)) decl
+          subst (λ d. IsKnown d (count n commits.receipts) (m n)) decl
           (subst (λ k. IsKnown (share_at shares n).line.decl k (m n)) (seated.counted n) (found.known n within))),
       seen_by (λ logs. SeesMore logs (λ n. (m n).log)) shares found.since,
     )
@@ -140,24 +140,25 @@ answers_kept tag o x r is h = subst (λ (y : Ran). Answers tag o y) is h
 pub as_transacted : {T : Type 0} (tried : T → Tried) (decls : List Decl) (plan : CheckedView) (before : SeatView)
     (result : Result T Stop) (after : SeatView)
     → IsAttempted tried decls plan before result after
-    → IsTransacted tried decls plan before.sitting result after.sitting
+    → IsTransacted tried decls plan before.commits result after.commits
 as_transacted tried decls plan before (Ok answer) after is =
     record { returned = (is.returned.0, is.returned.1.0, is.returned.2); stopped = tt; unchanged = tt }
 as_transacted tried decls plan before (Err stop) after is = record {
   returned = tt;
   stopped = λ ne. (let stops = is.stopped ne in (stops.0, stops.1.0, stops.2));
-  unchanged = ap (λ (s : SeatView). s.sitting) is.unchanged;
+  unchanged = ap (λ (s : SeatView). s.commits) is.unchanged;
 }
 
 -- .. and the seat's number stays
-pub number_stays : {T : Type 0} (tried : T → Tried) (decls : List Decl) (plan : CheckedView) (before : Sitting)
-    (result : Result T Stop) (after : Sitting)
+pub number_stays : {T : Type 0} (tried : T → Tried) (decls : List Decl) (plan : CheckedView) (before : SeatCommits)
+    (result : Result T Stop) (after : SeatCommits)
     → IsTransacted tried decls plan before result after → after.number ≡ before.number
 number_stays tried decls plan before (Ok answer) after is = same_number is.returned.0 before plan (tried answer) after
     is.returned.2
   where
-    same_number : (m : Map) (one : Sitting) (p : CheckedView) (t : Tried) (other : Sitting) → Tells m one p t other
+    same_number : (m : Map) (one : SeatCommits) (p : CheckedView) (t : Tried) (other : SeatCommits)
+        → Tells m one p t other
         → other.number ≡ one.number
-    same_number m one p (Tried.Kept number) other tells = ap (λ (s : Sitting). s.number) tells.2
-    same_number m one p (Tried.Retry cause) other tells = ap (λ (s : Sitting). s.number) tells.0
-number_stays tried decls plan before (Err stop) after is = ap (λ (s : Sitting). s.number) is.unchanged
+    same_number m one p (Tried.Kept number) other tells = ap (λ (s : SeatCommits). s.number) tells.2
+    same_number m one p (Tried.Retry cause) other tells = ap (λ (s : SeatCommits). s.number) tells.0
+number_stays tried decls plan before (Err stop) after is = ap (λ (s : SeatCommits). s.number) is.unchanged

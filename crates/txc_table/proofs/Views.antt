@@ -6,8 +6,8 @@ use Rattle.std.proofs.lemmas.Simd.{map-map}
 use Rattle.txc_base.specs.declared.entry.Entry.{Entry}
 use Rattle.txc_table_line.specs.Line.{decl_at}
 use Rattle.txc_txn.specs.InLog.{Logs}
-use Rattle.txc_table_report.specs.Gathered.{ReceiptsStand}
-use Rattle.txc_table_seat.specs.Seated.{Sitting, untouched}
+use Rattle.txc_table_report.specs.Gathered.{ReceiptsAreInLogs}
+use Rattle.txc_table_seat.specs.Seated.{SeatCommits, no_commits}
 use Rattle.txc_table_line.specs.Line.{LineId}
 use Rattle.txc_table_line.specs.SeatShare.{SeatShareView}
 use Rattle.txc_table_lines.specs.Lines.{OnlyGrew, fresh_share, line_ids, no_share, share_at}
@@ -47,20 +47,20 @@ pub fresh_own : (shares : List SeatShareView) (lines : List LineId) → shares �
 fresh_own shares lines fresh = fresh ∙ ap (map fresh_share) (sym (ap line_ids fresh ∙ fresh_lines lines))
 
 -- a seat that is new on the lines of such shares is new on these lines
-pub new_on : (book many : ℕ) (shares : List SeatShareView) (lines : List LineId) (number : ℕ) (seat : SeatView)
+pub new_on : (ledger many : ℕ) (shares : List SeatShareView) (lines : List LineId) (number : ℕ) (seat : SeatView)
     → shares ≡ map fresh_share lines
-    → seat ≡ new_seat (record { book = book; seats = many; all = line_ids shares }) number
-    → seat ≡ new_seat (record { book = book; seats = many; all = lines }) number
-new_on book many shares lines number seat fresh new = new
-    ∙ ap (λ (ls : List LineId). new_seat (record { book = book; seats = many; all = ls }) number)
+    → seat ≡ new_seat (record { ledger = ledger; seats = many; all = line_ids shares }) number
+    → seat ≡ new_seat (record { ledger = ledger; seats = many; all = lines }) number
+new_on ledger many shares lines number seat fresh new = new
+    ∙ ap (λ (ls : List LineId). new_seat (record { ledger = ledger; seats = many; all = ls }) number)
     (ap line_ids fresh ∙ fresh_lines lines)
 
 -- fresh shares are those of a seat that has committed nothing
-pub new_seated : {channels parts : ℕ} (shares : List SeatShareView) (number : ℕ) (sitting : Sitting)
-    → shares ≡ map fresh_share (line_ids shares) → sitting ≡ untouched number → channels ≡ length shares → parts ≡ 1
-    → IsSeated shares sitting channels parts
-new_seated {channels} {parts} shares number sitting fresh new each part =
-    subst (λ (s : Sitting). IsSeated shares s channels parts) (sym new) (record {
+pub new_seated : {channels parts : ℕ} (shares : List SeatShareView) (number : ℕ) (commits : SeatCommits)
+    → shares ≡ map fresh_share (line_ids shares) → commits ≡ no_commits number → channels ≡ length shares → parts ≡ 1
+    → IsSeated shares commits channels parts
+new_seated {channels} {parts} shares number commits fresh new each part =
+    subst (λ (s : SeatCommits). IsSeated shares s channels parts) (sym new) (record {
       counted = λ n. ap (λ (share : SeatShareView). share.amount) (fresh_at shares (line_ids shares) n fresh);
       stand = λ n receipt here. absurd (cc);
       made = λ n. ap (λ (share : SeatShareView). share.made) (fresh_at shares (line_ids shares) n fresh);
@@ -74,14 +74,14 @@ abbrev unseen : List LineId → List (List Entry)
 unseen lines = map (λ line. []) lines
 
 -- such a seat is new
-pub new_is : (lines : TableLines) (shares : List SeatShareView) (number : ℕ) (sitting : Sitting)
+pub new_is : (lines : TableLines) (shares : List SeatShareView) (number : ℕ) (commits : SeatCommits)
     → lines.all ≡ line_ids shares
-    → shares ≡ map fresh_share (line_ids shares) → sitting ≡ untouched number
-    → record { sitting = sitting; lines = lines; seen = seen_in shares } ≡ new_seat lines number
-new_is lines shares number sitting of fresh new =
+    → shares ≡ map fresh_share (line_ids shares) → commits ≡ no_commits number
+    → record { commits = commits; lines = lines; seen = seen_in shares } ≡ new_seat lines number
+new_is lines shares number commits of fresh new =
     let seen = ap seen_in fresh ∙ map-map (λ (share : SeatShareView). share.log) fresh_share (line_ids shares)
     ∙ ap unseen (sym of) in
-    λ i. record { sitting = new i; lines = lines; seen = seen i }
+    λ i. record { commits = new i; lines = lines; seen = seen i }
 
 -- what is so by a seat's shares is so by its view
 pub seen_by : (P : Logs → Type 0) (shares : List SeatShareView) → P (seen_logs shares) → P (log_at (seen_in shares))
@@ -95,11 +95,11 @@ sees_by before after grew =
     (seen_by (SeesMore (seen_logs before)) after grew)
 
 -- the acts of a seat are the entries at their places in what it has seen
-pub stand_by : {lines : TableLines} {channels parts : ℕ} (shares : List SeatShareView) (sitting : Sitting)
+pub stand_by : {lines : TableLines} {channels parts : ℕ} (shares : List SeatShareView) (commits : SeatCommits)
     (seat : SeatView)
-    → record { sitting = sitting; lines = lines; seen = seen_in shares } ≡ seat
-    → IsSeated shares sitting channels parts
-    → ReceiptsStand (seen_at seat) seat.sitting.receipts
-stand_by shares sitting seat view seated =
-    subst (λ (s : SeatView). ReceiptsStand (seen_at s) s.sitting.receipts) view
-    (seen_by (λ logs. ReceiptsStand logs sitting.receipts) shares seated.stand)
+    → record { commits = commits; lines = lines; seen = seen_in shares } ≡ seat
+    → IsSeated shares commits channels parts
+    → ReceiptsAreInLogs (seen_at seat) seat.commits.receipts
+stand_by shares commits seat view seated =
+    subst (λ (s : SeatView). ReceiptsAreInLogs (seen_at s) s.commits.receipts) view
+    (seen_by (λ logs. ReceiptsAreInLogs logs commits.receipts) shares seated.stand)

@@ -8,12 +8,12 @@ use Rattle.txc_txn_check.specs.Limits.{CheckedView}
 use Rattle.txc_txn.specs.declared.ran.Ran.{Ran}
 use Rattle.txc_txn.specs.declared.ran.Ran.TheVariants.{Kept as RanKept, Retry as RanRetry}
 use Rattle.txc_txn.specs.declared.receipt.Receipt.{Receipt}
-use Rattle.txc_txn.specs.InLog.{ReceiptStands}
+use Rattle.txc_txn.specs.InLog.{ReceiptIsInLog}
 use Rattle.txc_txn.specs.Run.{PlacesRise, count_deeds}
 use Rattle.txc_txn_history.specs.Placed.{is_among}
 use Rattle.txc_table_line.specs.SeatShare.{SeatShareView}
 use Rattle.txc_table_lines.specs.Lines.{OnlyGrew, line_ids, share_at}
-use Rattle.txc_table.specs.Seat.{StandsFor, seen_logs, seen_marks}
+use Rattle.txc_table.specs.Seat.{IsPlacedEvent, seen_logs, seen_marks}
 use Rattle.txc_table.specs.Table.{line_decls}
 
 -- what a run returns that ended with this cause to retry, or committed with this receipt
@@ -32,10 +32,10 @@ pub record IsKeptWith (tag : Tag) (plan : CheckedView) (before after : List Seat
     (receipt : Receipt) : Type 0 where
   pub counted : (n : ℕ) → (share_at after n).amount ≡ (share_at before n).amount + count_deeds n receipt.acts
   pub grew : OnlyGrew before after
-  pub stand : ReceiptStands (seen_logs after) receipt
+  pub stand : ReceiptIsInLog (seen_logs after) receipt
   pub rise : PlacesRise receipt
   pub later : tag.stamp < receipt.tag.stamp
   pub made : (n : ℕ) → (share_at after n).made ≡ (share_at before n).made + one_if (is_among plan.declared n)
   pub marked : OnlyMarked before after
-  pub placed : StandsFor (line_decls (line_ids after)) (seen_logs after) (seen_marks after)
+  pub placed : IsPlacedEvent (line_decls (line_ids after)) (seen_logs after) (seen_marks after)
       (record { seat = tag.seat; plan = plan; before = tag.stamp; receipt = receipt })

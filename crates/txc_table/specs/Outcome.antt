@@ -14,7 +14,7 @@ use Rattle.txc_txn.specs.InLog.{Logs}
 use Rattle.txc_txn.specs.Maps.{Map}
 use Rattle.txc_txn.specs.Run.{receipt_of}
 use Rattle.txc_txn.specs.Transaction.{Ending, Kept as EndKept, Again, Aborted, kept_tag, transaction}
-use Rattle.txc_table_seat.specs.Seated.{Sitting, count, next_tag, with_receipt}
+use Rattle.txc_table_seat.specs.Seated.{SeatCommits, count, next_tag, with_receipt}
 use Rattle.txc_table.specs.declared.tried.Tried.{Tried}
 use Rattle.txc_table.specs.declared.tried.Tried.TheVariants.{Kept, Retry}
 use Rattle.txc_table.specs.Seat.{SeatView, SeesMore, seen_at}
@@ -36,7 +36,7 @@ AreFound decls receipts seen m = AreLawful decls receipts m × SeesMore seen (λ
 
 -- the result of an attempt of a transaction on these channels, and its effect on the seat: one more receipt, which is
 -- the transaction's, or the transaction's cause to retry and no effect
-abbrev pub Tells : Map → Sitting → CheckedView → Tried → Sitting → Type 0
+abbrev pub Tells : Map → SeatCommits → CheckedView → Tried → SeatCommits → Type 0
 Tells m before plan (Kept number) after =
     (receipt : Receipt) × (number ≡ length before.receipts) × (after ≡ with_receipt before plan receipt)
     × Answers (kept_tag m (next_tag before) plan.declared) (transaction m (next_tag before) plan.declared plan.steps)
@@ -55,17 +55,17 @@ Sees before (Retry cause) after = after ≡ before
 -- result; `NoMemory` says nothing about channels; after any stop the seat is unchanged
 pub record IsAttempted {T : Type 0} (tried : T → Tried) (decls : List Decl) (plan : CheckedView) (before : SeatView)
     (result : Result T Stop) (after : SeatView) : Type 0 where
-  pub returned : IfOk result (λ answer. (m : Map) × AreFound decls before.sitting.receipts (seen_at before) m
-      × Tells m before.sitting plan (tried answer) after.sitting)
+  pub returned : IfOk result (λ answer. (m : Map) × AreFound decls before.commits.receipts (seen_at before) m
+      × Tells m before.commits plan (tried answer) after.commits)
   pub sees : IfOk result (λ answer. Sees before (tried answer) after)
   pub stopped : IfErr result (λ stop. stop ≢ NoMemory
-      → ((m : Map) × AreFound decls before.sitting.receipts (seen_at before) m
-      × (transaction m (next_tag before.sitting) plan.declared plan.steps ≡ Aborted stop)))
+      → ((m : Map) × AreFound decls before.commits.receipts (seen_at before) m
+      × (transaction m (next_tag before.commits) plan.declared plan.steps ≡ Aborted stop)))
   pub unchanged : OnErr result (after ≡ before)
 
 -- `IsAttempted` without what the seat has seen
-pub record IsTransacted {T : Type 0} (tried : T → Tried) (decls : List Decl) (plan : CheckedView) (before : Sitting)
-    (result : Result T Stop) (after : Sitting) : Type 0 where
+pub record IsTransacted {T : Type 0} (tried : T → Tried) (decls : List Decl) (plan : CheckedView) (before : SeatCommits)
+    (result : Result T Stop) (after : SeatCommits) : Type 0 where
   pub returned : IfOk result (λ answer. (m : Map) × AreLawful decls before.receipts m
       × Tells m before plan (tried answer) after)
   pub stopped : IfErr result (λ stop. stop ≢ NoMemory → ((m : Map) × AreLawful decls before.receipts m

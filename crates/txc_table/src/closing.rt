@@ -2,13 +2,14 @@
 ghost use Rattle.std.specs.Prelude.{◌≡◌, ◌≤◌, [], List, IfOk, IfErr, IfSome, length, vec_capacity, vec_len};
 ghost use Rattle.txc_chan.specs.declared.account.Account.{Account};
 ghost use Rattle.txc_table_lines.specs.Accounted.{AreAccounts};
-ghost use Rattle.txc_table_lines.specs.Locked.{AreClean, AreWhole, books_in, books_of, helds_of, lines_of};
-ghost use Rattle.txc_table.specs.Closing.{AreBuffers, AreNone, CanClose, IsStanding, IsStandingInSummary, receipts_of};
+ghost use Rattle.txc_table_lines.specs.Locked.{AreClean, AreWhole, ledgers_in, ledgers_of, helds_of, lines_of};
+ghost use Rattle.txc_table.specs.Closing.{AreBuffers, AreEmptyShares, CanClose, IsConsistentReport};
+ghost use Rattle.txc_table.specs.Closing.{IsConsistentSummary, receipts_of};
 ghost use Rattle.txc_table.specs.Table.{line_decls};
 
+use crate::departed_seat::DepartedSeat;
 use crate::gathered::gather;
-use crate::left_seat::LeftSeat;
-use crate::members::Members;
+use crate::table_seats::TableSeats;
 use std::alloc::Global;
 use std::sync::Wait;
 use txc_base::List;
@@ -32,19 +33,19 @@ pub(crate) struct ReportBuffers {
 pub(crate) fn buffers_for(
     locked: &mut LockedLines<FullLog>,
     alloc: Global,
-    members: &Members,
+    table_seats: &TableSeats,
 ) -> Option<ReportBuffers>
     requires clean { AreClean (helds_of locked.old) }
-    ensures buffers { IfSome result (AreBuffers locked.old members.now.seats) }
+    ensures buffers { IfSome result (AreBuffers locked.old table_seats.now.seats) }
     ensures same { locked.new ≡ locked.old }
 {
     let mut histories = Vec::new(alloc);
     let mut receipts = Vec::new(alloc);
-    let seats = usize::from(members.count());
+    let seats = usize::from(table_seats.count());
     if histories.reserve(seats).is_err() || receipts.reserve(seats).is_err() {
         return None;
     }
-    let Ok(shares) = locked.no_shares(alloc) else {
+    let Ok(shares) = locked.empty_shares(alloc) else {
         return None;
     };
     match locked.accounts_without_logs(alloc) {
@@ -62,26 +63,26 @@ pub(crate) fn buffers_for(
 /// receipts are a report. Returns the seats' joined shares.
 fn close<K: Log, S: Receipts>(
     locked: &mut LockedLines<K>,
-    left: Vec<LeftSeat<K, S>>,
-    members: &Members,
+    left: Vec<DepartedSeat<K, S>>,
+    table_seats: &TableSeats,
     none: CollectedShares,
     histories: &mut Vec<History<S>>,
 ) -> CollectedShares
-    requires can { CanClose locked.old members.now left.items }
-    requires nothing { AreNone locked.old none }
+    requires can { CanClose locked.old table_seats.now left.items }
+    requires nothing { AreEmptyShares locked.old none }
     requires none { histories.old.items ≡ [] }
-    requires room { members.now.seats ≤ vec_capacity histories.old }
+    requires room { table_seats.now.seats ≤ vec_capacity histories.old }
     ensures same { locked.new ≡ locked.old }
-    ensures many { vec_len histories.new ≡ members.now.seats }
-    ensures books { books_in result ≡ books_of (lines_of locked.old) }
+    ensures many { vec_len histories.new ≡ table_seats.now.seats }
+    ensures ledgers { ledgers_in result ≡ ledgers_of (lines_of locked.old) }
     ensures whole { AreWhole result }
     ensures report { (accounts : List Account)
         → AreAccounts (line_decls (lines_of locked.old)) (helds_of locked.old) (length locked.old) accounts
-        → IsStanding (lines_of locked.old) members.now.seats left.items
+        → IsConsistentReport (lines_of locked.old) table_seats.now.seats left.items
         (record { accounts = accounts; receipts = receipts_of histories.new.items }) }
 {
     locked.show_marks();
-    let mut all = gather(left, members, locked, none, histories);
+    let mut all = gather(left, table_seats, locked, none, histories);
     locked.show_whole(&mut all);
     all
 }
@@ -104,13 +105,13 @@ fn write_out(histories: Vec<History>, receipts: Vec<List<Receipt>>) -> Vec<List<
 pub(crate) fn report<R: Wait>(
     rt: &R,
     locked: LockedLines<FullLog>,
-    members: &Members,
-    left: Vec<LeftSeat>,
+    table_seats: &TableSeats,
+    left: Vec<DepartedSeat>,
     buffers: ReportBuffers,
 ) -> Report
-    requires can { CanClose locked members.now left.items }
-    requires buffers { AreBuffers locked members.now.seats buffers }
-    ensures standing { IsStanding (lines_of locked) members.now.seats left.items result }
+    requires can { CanClose locked table_seats.now left.items }
+    requires buffers { AreBuffers locked table_seats.now.seats buffers }
+    ensures standing { IsConsistentReport (lines_of locked) table_seats.now.seats left.items result }
     ensures accounts { AreAccounts (line_decls (lines_of locked)) (helds_of locked) (length locked) result.accounts }
 {
     let ReportBuffers {
@@ -120,7 +121,7 @@ pub(crate) fn report<R: Wait>(
         receipts,
     } = buffers;
     let mut locked = locked;
-    let all = close(&mut locked, left, members, shares, &mut histories);
+    let all = close(&mut locked, left, table_seats, shares, &mut histories);
     Report {
         accounts: List::from_vec(locked.into_logs(rt, accounts, all)),
         receipts: List::from_vec(write_out(histories, receipts)),
@@ -132,25 +133,25 @@ pub(crate) fn report<R: Wait>(
 pub(crate) fn report_in_summary<K: Log, S: Receipts>(
     locked: &mut LockedLines<K>,
     alloc: Global,
-    members: &Members,
-    left: Vec<LeftSeat<K, S>>,
-) -> Result<Vec<Summary>, Vec<LeftSeat<K, S>>>
-    requires can { CanClose locked.old members.now left.items }
+    table_seats: &TableSeats,
+    left: Vec<DepartedSeat<K, S>>,
+) -> Result<Vec<Summary>, Vec<DepartedSeat<K, S>>>
+    requires can { CanClose locked.old table_seats.now left.items }
     ensures ok { IfOk result (λ summaries.
-        IsStandingInSummary (lines_of locked.old) members.now.seats left.items summaries.items) }
+        IsConsistentSummary (lines_of locked.old) table_seats.now.seats left.items summaries.items) }
     ensures err { IfErr result (λ back. back ≡ left) }
     ensures same { locked.new ≡ locked.old }
 {
     let mut histories = Vec::new(alloc);
-    if histories.reserve(usize::from(members.count())).is_err() {
+    if histories.reserve(usize::from(table_seats.count())).is_err() {
         return Err(left);
     }
-    let Ok(shares) = locked.no_shares(alloc) else {
+    let Ok(shares) = locked.empty_shares(alloc) else {
         return Err(left);
     };
     match locked.summaries(alloc) {
         Ok(summaries) => {
-            drop(close(locked, left, members, shares, &mut histories));
+            drop(close(locked, left, table_seats, shares, &mut histories));
             Ok(summaries)
         }
         Err(_) => Err(left),

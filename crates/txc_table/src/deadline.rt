@@ -12,11 +12,11 @@ pub(crate) trait Deadline {
 
 /// A wait without a deadline. Without a notification, only a stall ends it.
 #[derive(Drop)]
-pub(crate) struct Never<'a, R> {
+pub(crate) struct NoDeadline<'a, R> {
     pub(crate) rt: &'a R,
 }
 
-impl<R: Wait> Deadline for Never<'_, R> {
+impl<R: Wait> Deadline for NoDeadline<'_, R> {
     fn wait(&self, wait_queue: &WaitQueue, seat: u16) -> bool {
         wait_queue.wait(self.rt, seat)
     }
@@ -25,12 +25,12 @@ impl<R: Wait> Deadline for Never<'_, R> {
 /// A wait until a deadline. Without a notification, only time ends it: the deadline has passed, or the clock cannot be
 /// read. It never stalls.
 #[derive(Drop)]
-pub(crate) struct At<'a, R> {
+pub(crate) struct UntilInstant<'a, R> {
     pub(crate) rt: &'a R,
     pub(crate) until: Instant,
 }
 
-impl<R: Wait + Clock> Deadline for At<'_, R> {
+impl<R: Wait + Clock> Deadline for UntilInstant<'_, R> {
     fn wait(&self, wait_queue: &WaitQueue, seat: u16) -> bool {
         wait_queue.wait_until(self.rt, seat, self.until)
     }

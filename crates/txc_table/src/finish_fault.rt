@@ -1,8 +1,8 @@
 // The reasons that a table is not finished.
 ghost use Rattle.std.specs.Prelude.{◌≡◌};
-ghost use Rattle.txc_table.specs.Refused.{end_code};
+ghost use Rattle.txc_table.specs.Refused.{finish_fault_code};
 
-use crate::left_seat::LeftSeat;
+use crate::departed_seat::DepartedSeat;
 use crate::table::Table;
 use std::error::Error;
 use std::fmt;
@@ -14,9 +14,9 @@ use txc_txn::Report;
 #[derive(Drop)]
 pub enum FinishFault<K: Log = FullLog, S: Receipts = AllReceipts> {
     /// A seat is not among those that have left. The fault returns the table and the seats.
-    SeatMissing(Table<K>, Vec<LeftSeat<K, S>>),
+    SeatMissing(Table<K>, Vec<DepartedSeat<K, S>>),
     /// Allocation failed. The fault returns the table and the seats.
-    NoMemory(Table<K>, Vec<LeftSeat<K, S>>),
+    NoMemory(Table<K>, Vec<DepartedSeat<K, S>>),
     /// An act of a receipt is not the entry at its place, as the report shows. It is never returned, because each act
     /// is that entry. It remains for callers that name it.
     Torn {
@@ -34,7 +34,7 @@ pub enum FinishFault<K: Log = FullLog, S: Receipts = AllReceipts> {
 impl<K: Log, S: Receipts> FinishFault<K, S> {
     /// Returns the number of this fault, from 1.
     pub fn code(&self) -> u8
-        ensures { result ≡ end_code self.now }
+        ensures { result ≡ finish_fault_code self.now }
     {
         match self {
             FinishFault::SeatMissing(_, _) => 1,
@@ -46,9 +46,9 @@ impl<K: Log, S: Receipts> FinishFault<K, S> {
 
 impl<K: Log, S: Receipts> fmt::Display for FinishFault<K, S> {
     ghost use Rattle.std.specs.Prelude.{Some};
-    ghost use Rattle.txc_table.specs.Refused.{finish_text};
+    ghost use Rattle.txc_table.specs.Refused.{finish_fault_text};
 
-    ghost output = { λ fault. Some (finish_text fault) };
+    ghost output = { λ fault. Some (finish_fault_text fault) };
 
     fn fmt<W: fmt::Write>(&self, f: &mut fmt::Formatter<W>) -> fmt::Result {
         match self {

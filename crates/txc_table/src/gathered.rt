@@ -3,27 +3,30 @@ ghost use Rattle.std.specs.Prelude.{◌≡◌, ◌<◌, ◌≤◌, [], true, fal
 ghost use Rattle.std.specs.Prelude.{slice_index_or, vec_capacity};
 ghost use Rattle.txc_table_report.specs.Finished.{numbered};
 ghost use Rattle.txc_table_report.specs.Gathered.{totals_from};
-ghost use Rattle.txc_table_report.specs.Out.{TakesOut};
+ghost use Rattle.txc_table_report.specs.Out.{RemovesSeat};
 ghost use Rattle.txc_txn_history.specs.Seats.{all_uses_from};
-ghost use Rattle.txc_table_lines.specs.Locked.{HaveParts, amounts_in, books_in, books_of, lines_of, made_in};
-ghost use Rattle.txc_table.specs.Closing.{AreNone, AreOfAll, CanClose, plans_of, receipts_of};
-ghost use Rattle.txc_table.specs.Refused.{AreAllBack, IsMissing};
-ghost use Rattle.txc_table.specs.Seat.{AreOf, sittings_of};
+ghost use Rattle.txc_table_lines.specs.Locked.{HaveParts, amounts_in, ledgers_in, ledgers_of, lines_of, made_in};
+ghost use Rattle.txc_table.specs.Closing.{AreEmptyShares, AreOfAll, CanClose, plans_of, receipts_of};
+ghost use Rattle.txc_table.specs.Refused.{HaveAllNumbers, IsMissing};
+ghost use Rattle.txc_table.specs.Seat.{AreOf, commits_of};
 ghost use Rattle.txc_table.specs.Table.{TableLines};
 
-use crate::left_seat::LeftSeat;
-use crate::members::Members;
+use crate::departed_seat::DepartedSeat;
+use crate::table_seats::TableSeats;
 use txc_base_ledger::Share;
 use txc_chan::Log;
 use txc_table_lines::{CollectedShares, LockedLines};
 use txc_table_seat::{History, Receipts};
 
 /// Returns the index of a seat with this number, or `None` if there is none.
-pub(crate) fn find_seat<K: Log, S: Receipts>(left: &[LeftSeat<K, S>], number: u16) -> Option<usize>
+pub(crate) fn find_seat<K: Log, S: Receipts>(
+    left: &[DepartedSeat<K, S>],
+    number: u16,
+) -> Option<usize>
     ensures some { IfSome result (λ at. (seat : _) × (slice_get left.now at ≡ Some seat)
-        × (seat.sitting.number ≡ number)) }
-    ensures none { result ≡ None → numbered number (sittings_of left.now) ≡ 0 }
-    ensures there { IfSome result (λ at. 0 < numbered number (sittings_of left.now)) }
+        × (seat.commits.number ≡ number)) }
+    ensures none { result ≡ None → numbered number (commits_of left.now) ≡ 0 }
+    ensures there { IfSome result (λ at. 0 < numbered number (commits_of left.now)) }
 {
     for at in 0..left.len() {
         let seat = &left[at];
@@ -35,9 +38,9 @@ pub(crate) fn find_seat<K: Log, S: Receipts>(left: &[LeftSeat<K, S>], number: u1
 }
 
 /// Returns whether a seat with a number below `seats` is missing from these.
-pub(crate) fn is_missing<K: Log, S: Receipts>(left: &[LeftSeat<K, S>], seats: u16) -> bool
-    ensures yes { result ≡ true → IsMissing seats (sittings_of left.now) }
-    ensures no { result ≡ false → AreAllBack seats (sittings_of left.now) }
+pub(crate) fn is_missing<K: Log, S: Receipts>(left: &[DepartedSeat<K, S>], seats: u16) -> bool
+    ensures yes { result ≡ true → IsMissing seats (commits_of left.now) }
+    ensures no { result ≡ false → HaveAllNumbers seats (commits_of left.now) }
 {
     for number in 0..seats {
         if find_seat(left, number).is_none() {
@@ -48,9 +51,12 @@ pub(crate) fn is_missing<K: Log, S: Receipts>(left: &[LeftSeat<K, S>], seats: u1
 }
 
 /// Removes and returns a seat with this number.
-fn take_out<K: Log, S: Receipts>(left: &mut Vec<LeftSeat<K, S>>, number: u16) -> LeftSeat<K, S>
-    requires { 0 < numbered number (sittings_of left.old.items) }
-    ensures out { TakesOut number (sittings_of left.old.items) result.sitting (sittings_of left.new.items) }
+fn remove_seat<K: Log, S: Receipts>(
+    left: &mut Vec<DepartedSeat<K, S>>,
+    number: u16,
+) -> DepartedSeat<K, S>
+    requires { 0 < numbered number (commits_of left.old.items) }
+    ensures out { RemovesSeat number (commits_of left.old.items) result.commits (commits_of left.new.items) }
     ensures of { (lines : TableLines) → AreOf lines left.old.items
         → (result.lines ≡ lines) × AreOf lines left.new.items }
 {
@@ -60,35 +66,35 @@ fn take_out<K: Log, S: Receipts>(left: &mut Vec<LeftSeat<K, S>>, number: u16) ->
     }
 }
 
-/// Returns a share of the first seat's table's own book without a part. Does nothing at run time.
-fn no_part<K: Log, S: Receipts>(left: &mut Vec<LeftSeat<K, S>>) -> Share
+/// Returns a share of the first seat's table's own ledger without a part. Does nothing at run time.
+fn no_part<K: Log, S: Receipts>(left: &mut Vec<DepartedSeat<K, S>>) -> Share
     requires some { 0 < length left.old.items }
-    ensures of { (seat : _) → (result.name ≡ (slice_index_or left.old.items 0 seat).lines.book)
+    ensures of { (seat : _) → (result.name ≡ (slice_index_or left.old.items 0 seat).lines.ledger)
         × (result.whole ≡ (slice_index_or left.old.items 0 seat).lines.seats) }
     ensures none { result.parts ≡ 0 }
     ensures same { left.new.items ≡ left.old.items }
     ensures room { vec_capacity left.new ≡ vec_capacity left.old }
 {
-    left[0].member.empty()
+    left[0].table_share.empty()
 }
 
 /// Moves the histories of all seats, ordered by number, into a list that has room for them, and returns the seats'
 /// joined shares.
 pub(crate) fn gather<K: Log, S: Receipts>(
-    left: Vec<LeftSeat<K, S>>,
-    members: &Members,
+    left: Vec<DepartedSeat<K, S>>,
+    table_seats: &TableSeats,
     locked: &mut LockedLines<K>,
     none: CollectedShares,
     histories: &mut Vec<History<S>>,
 ) -> CollectedShares
-    requires can { CanClose locked.old members.now left.items }
-    requires nothing { AreNone locked.old none }
+    requires can { CanClose locked.old table_seats.now left.items }
+    requires nothing { AreEmptyShares locked.old none }
     requires none { histories.old.items ≡ [] }
-    requires room { members.now.seats ≤ vec_capacity histories.old }
-    ensures all { AreOfAll locked.old (sittings_of left.items) members.now.seats (plans_of histories.new.items)
+    requires room { table_seats.now.seats ≤ vec_capacity histories.old }
+    ensures all { AreOfAll locked.old (commits_of left.items) table_seats.now.seats (plans_of histories.new.items)
         (receipts_of histories.new.items) }
-    ensures books { books_in result ≡ books_of (lines_of locked.old) }
-    ensures parts { HaveParts members.now.seats result }
+    ensures ledgers { ledgers_in result ≡ ledgers_of (lines_of locked.old) }
+    ensures parts { HaveParts table_seats.now.seats result }
     ensures amounts { amounts_in result ≡ totals_from 0 (length locked.old) (receipts_of histories.new.items) }
     ensures made { made_in result ≡ all_uses_from 0 (length locked.old) (plans_of histories.new.items) }
     ensures same { locked.new ≡ locked.old }
@@ -96,26 +102,26 @@ pub(crate) fn gather<K: Log, S: Receipts>(
     let mut left = left;
     let mut parts = no_part(&mut left);
     let mut all = none;
-    for number in 0..members.count() {
-        let LeftSeat {
+    for number in 0..table_seats.count() {
+        let DepartedSeat {
             history,
             mut shares,
-            member,
-        } = take_out(&mut left, number);
+            table_share,
+        } = remove_seat(&mut left, number);
         locked.show_known(&mut shares);
         all.gain(shares);
-        parts.merge(member);
+        parts.merge(table_share);
         history.show();
         histories.push_reserved(history);
     }
     if let Some(seat) = left.pop() {
-        // The table's own book has no part for it.
-        let LeftSeat {
+        // The table's own ledger has no part for it.
+        let DepartedSeat {
             history: _,
             shares: _,
-            member,
+            table_share,
         } = seat;
-        parts.merge(member);
+        parts.merge(table_share);
         unreachable!()
     }
     all

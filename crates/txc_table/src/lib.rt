@@ -7,20 +7,20 @@
 
 mod closing;
 mod deadline;
+mod departed_seat;
 mod finish_fault;
 mod gate;
 mod gathered;
-mod left_seat;
 mod making;
-mod members;
 mod seat;
 mod shelves;
 mod table;
+mod table_seats;
 mod tried;
 
+pub use departed_seat::DepartedSeat;
 pub use finish_fault::FinishFault;
 pub use gate::Gate;
-pub use left_seat::LeftSeat;
 pub use seat::Seat;
 pub use table::{IdleTable, Table};
 pub use tried::{Ended, Tried};

@@ -6,11 +6,11 @@ ghost use Rattle.txc_table_lines.specs.Lines.{fresh_share};
 ghost use Rattle.txc_table.specs.Seat.{AreNewHistories, new_seats};
 ghost use Rattle.txc_table.specs.Table.{shelved_for, table_lines};
 
-use crate::members::Members;
 use crate::seat::Seat;
 use crate::shelves::Shelves;
+use crate::table_seats::TableSeats;
 use std::alloc::{AllocError, Global};
-use txc_base_ledger::Book;
+use txc_base_ledger::Ledger;
 use txc_chan::{Chan, Decl, Log};
 use txc_table_lines::{Lines, SeatShares, open};
 use txc_table_seat::{History, PaddedReceipt, Receipts};
@@ -51,7 +51,7 @@ pub(crate) fn make_lines<K: Log>(
     requires theirs { shelves.now ≡ chans.items }
     requires made { All (λ held. held.logged ≡ opened held.logged.decl) chans.items }
     ensures lines { IfOk result (λ made. map (λ line. line.decl) made.0 ≡ map (λ held. held.logged.decl) chans.items) }
-    ensures books { IfOk result (λ made. All (λ line. line.books.seats ≡ seats) made.0) }
+    ensures ledgers { IfOk result (λ made. All (λ line. line.ledgers.seats ≡ seats) made.0) }
     ensures seats { IfOk result (λ made. made.1.items ≡ replicate seats (map fresh_share made.0)) }
 {
     // Only for the proof: the shelves belong to these channels.
@@ -88,15 +88,15 @@ pub(crate) fn make_drafts(alloc: Global, seats: u16) -> Result<Vec<Box<PaddedRec
 }
 
 /// Makes the seats of a new table with these lines in this room, from their histories, their drafts and what a new
-/// seat has of each line: they are numbered from 0, have no receipts and have seen no entry. Returns the members of the
-/// table with its seats.
+/// seat has of each line: they are numbered from 0, have no receipts and have seen no entry. Returns how many
+/// seats the table has, with the seats.
 pub(crate) fn make_seats<K: Log, S: Receipts>(
     lines: &Lines<K>,
     histories: Vec<History<S>>,
     drafts: Vec<Box<PaddedReceipt>>,
     room: Vec<Seat<K, S>>,
     shares: Vec<SeatShares<K>>,
-) -> (Members, Vec<Seat<K, S>>)
+) -> (TableSeats, Vec<Seat<K, S>>)
     requires new { AreNewHistories 0 (length lines.now) histories.items }
     requires few { length histories.items ≤ u16.MAX }
     requires empty { room.items ≡ [] }
@@ -109,9 +109,9 @@ pub(crate) fn make_seats<K: Log, S: Receipts>(
     // Only for the proof: these are the lines.
     let _whose = lines;
     let count = histories.len() as u16;
-    // Only for proofs: the book has a part for each seat, by which each seat is known to be of this table.
-    let (_book, mut share) = Book::new(u64::from(count));
-    let members = Members::new(count, &share);
+    // Only for proofs: the ledger has a part for each seat, by which each seat is known to be of this table.
+    let (_ledger, mut share) = Ledger::new(u64::from(count));
+    let table_seats = TableSeats::new(count, &share);
     let mut made = room;
     let mut shares = shares;
     let mut drafts = drafts;
@@ -124,5 +124,5 @@ pub(crate) fn make_seats<K: Log, S: Receipts>(
             None => unreachable!(),
         }
     }
-    (members, made)
+    (table_seats, made)
 }

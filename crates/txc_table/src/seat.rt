@@ -2,21 +2,20 @@
 ghost use Rattle.std.specs.Prelude.{◌≡◌, ◌≤◌, ◌<◌, ◌+◌, ℕ, length, map, slice_get, None, Some, IfSome, IfNone};
 ghost use Rattle.txc_base.specs.Counts.{is_put, is_took, is_other};
 ghost use mathlib.Core.List.{IsPrefix};
-ghost use Rattle.txc_table_report.specs.Gathered.{ReceiptsStand};
-ghost use Rattle.txc_table_seat.specs.Seated.{IsOwn, StampsRise, count, last_receipt, untouched};
+ghost use Rattle.txc_table_report.specs.Gathered.{ReceiptsAreInLogs};
+ghost use Rattle.txc_table_seat.specs.Seated.{AreReceiptsOf, StampsRise, count, last_receipt, no_commits};
 ghost use Rattle.txc_table_seat.specs.Tally.{count_that};
 ghost use Rattle.txc_table_lines.specs.Lines.{fresh_share, line_ids};
-ghost use Rattle.txc_table.specs.Ended.{acts_in};
 ghost use Rattle.txc_table.specs.Seat.{AllPlaced, new_seat, seen_at};
 
-use crate::left_seat::LeftSeat;
+use crate::departed_seat::DepartedSeat;
 use std::alloc::Global;
 use std::marker::Model;
 use txc_base_ledger::Share;
 use txc_chan::{FullLog, Log};
 use txc_table_lines::SeatShares;
 use txc_table_seat::{AllReceipts, History, PaddedReceipt, Receipts};
-use txc_txn::{Deed, Receipt};
+use txc_txn::Receipt;
 
 /// A seat: a handle that runs transactions on its table, one at a time. It cannot be copied and must be consumed by
 /// `Table::leave`. Its table is the one that it was made with. The type `S` decides whether it keeps all its receipts
@@ -24,8 +23,8 @@ use txc_txn::{Deed, Receipt};
 pub struct Seat<K: Log = FullLog, S: Receipts = AllReceipts> {
     pub(crate) history: History<S>,
     pub(crate) shares: SeatShares<K>,
-    // Only for proofs: the seat's part of its table's own book.
-    pub(crate) member: Share,
+    // Only for proofs: the seat's part of its table's own ledger.
+    pub(crate) table_share: Share,
     // Where the next receipt is written. Its memory is that of a receipt that is no longer read.
     pub(crate) draft: Box<PaddedReceipt>,
 }
@@ -41,114 +40,110 @@ impl<K: Log, S: Receipts> Model for Seat<K, S> {
     ghost coded = { Prim.hlevel (codes, step.the_row.coded) };
 
     ghost view = { λ seat. record {
-      sitting = seat.history.sitting;
-      lines = record { book = seat.member.name; seats = seat.member.whole; all = line_ids seat.shares };
+      commits = seat.history.commits;
+      lines = record { ledger = seat.table_share.name; seats = seat.table_share.whole; all = line_ids seat.shares };
       seen = seen_in seat.shares;
     } };
 
-    ghost invariant = { λ seat. IsSeated seat.shares seat.history.sitting seat.history.channels seat.member.parts };
+    ghost invariant = { λ seat. IsSeated seat.shares seat.history.commits seat.history.channels
+        seat.table_share.parts };
 }
 
 impl<K: Log, S: Receipts> Seat<K, S> {
     /// Creates a seat that has seen no entry, from a history without receipts, a draft, what a new seat has of each
-    /// line, and a part of the table's own book.
+    /// line, and a part of the table's own ledger.
     pub(crate) fn new(
         history: History<S>,
         draft: Box<PaddedReceipt>,
         shares: SeatShares<K>,
-        member: Share,
+        table_share: Share,
     ) -> Seat<K, S>
-        requires new { history.sitting ≡ untouched history.sitting.number }
+        requires new { history.commits ≡ no_commits history.commits.number }
         requires each { history.channels ≡ length shares }
         requires fresh { shares ≡ map fresh_share (line_ids shares) }
-        requires part { member.parts ≡ 1 }
-        ensures { result ≡ new_seat (record { book = member.name; seats = member.whole; all = line_ids shares })
-            history.sitting.number }
+        requires part { table_share.parts ≡ 1 }
+        ensures { result ≡ new_seat (record {
+          ledger = table_share.name;
+          seats = table_share.whole;
+          all = line_ids
+              shares;
+        })
+            history.commits.number }
     {
         Seat {
             history,
             shares,
-            member,
+            table_share,
             draft,
         }
     }
 
     /// Returns the seat as one that has left.
-    pub(crate) fn into_left(self) -> LeftSeat<K, S>
-        ensures sitting { result.sitting ≡ self.sitting }
+    pub(crate) fn into_departed(self) -> DepartedSeat<K, S>
+        ensures commits { result.commits ≡ self.commits }
         ensures lines { result.lines ≡ self.lines }
     {
         let Seat {
             history,
             shares,
-            member,
+            table_share,
             draft: _,
         } = self;
-        LeftSeat {
+        DepartedSeat {
             history,
             shares,
-            member,
+            table_share,
         }
     }
 
     /// Returns the number of the seat.
     pub fn number(&self) -> u16
-        ensures { result ≡ self.now.sitting.number }
+        ensures { result ≡ self.now.commits.number }
     {
         self.history.number()
     }
 
     /// Returns the number of transactions that the seat committed.
     pub fn count(&self) -> usize
-        ensures { result ≡ length self.now.sitting.receipts }
+        ensures { result ≡ length self.now.commits.receipts }
     {
         self.history.count()
     }
 
     /// Returns the receipt of the transaction that the seat committed last, or `None` before the first.
     pub fn last(&self) -> Option<&Receipt>
-        ensures some { IfSome result (λ receipt. last_receipt self.now.sitting.receipts ≡ Some receipt.now) }
-        ensures none { IfNone result (last_receipt self.now.sitting.receipts ≡ None) }
+        ensures some { IfSome result (λ receipt. last_receipt self.now.commits.receipts ≡ Some receipt.now) }
+        ensures none { IfNone result (last_receipt self.now.commits.receipts ≡ None) }
     {
         self.history.last()
     }
 
-    /// Returns the acts of the receipt that `last` returns; none if there is no receipt.
-    pub(crate) fn last_acts(&self) -> &[Deed]
-        ensures { result.now ≡ acts_in (last_receipt self.now.sitting.receipts) }
-    {
-        match self.history.last() {
-            Some(receipt) => receipt.acts.as_slice(),
-            None => &[],
-        }
-    }
-
     /// Returns how many acts of the seat's receipts wrote to a channel or put an item back there.
     pub fn put(&self, chan: u16) -> u64
-        ensures { result ≡ count_that is_put chan self.now.sitting.receipts }
+        ensures { result ≡ count_that is_put chan self.now.commits.receipts }
     {
         self.history.put(chan)
     }
 
     /// Returns how many acts of the seat's receipts took from a channel.
     pub fn took(&self, chan: u16) -> u64
-        ensures { result ≡ count_that is_took chan self.now.sitting.receipts }
+        ensures { result ≡ count_that is_took chan self.now.commits.receipts }
     {
         self.history.took(chan)
     }
 
     /// Returns how many acts of the seat's receipts in a channel neither wrote, put back nor took.
     pub fn other(&self, chan: u16) -> u64
-        ensures { result ≡ count_that is_other chan self.now.sitting.receipts }
+        ensures { result ≡ count_that is_other chan self.now.commits.receipts }
     {
         self.history.other(chan)
     }
 
     /// Proves that the seat's three counts together are its share. Does nothing at run time.
     pub fn show_counts(&self)
-        ensures { (chan : ℕ) → count_that is_put chan self.now.sitting.receipts
-            + count_that is_took chan self.now.sitting.receipts
-            + count_that is_other chan self.now.sitting.receipts ≡ count chan self.now.sitting.receipts }
+        ensures { (chan : ℕ) → count_that is_put chan self.now.commits.receipts
+            + count_that is_took chan self.now.commits.receipts
+            + count_that is_other chan self.now.commits.receipts ≡ count chan self.now.commits.receipts }
     {
         self.history.show_counts();
     }
@@ -158,9 +153,9 @@ impl<K: Log, S: Receipts> Seat<K, S> {
     /// is the entry at its place in what the seat has seen of the channel's log. Each transaction gave its receipt on
     /// channels whose logs the seat has seen, and left each channel that it declares with the receipt's stamp.
     pub fn show(&self)
-        ensures own { IsOwn self.now.sitting.number 0 self.now.sitting.receipts }
-        ensures stand { ReceiptsStand (seen_at self.now) self.now.sitting.receipts }
-        ensures stamped { StampsRise 0 self.now.sitting.stamp self.now.sitting.receipts }
+        ensures own { AreReceiptsOf self.now.commits.number 0 self.now.commits.receipts }
+        ensures stand { ReceiptsAreInLogs (seen_at self.now) self.now.commits.receipts }
+        ensures stamped { StampsRise 0 self.now.commits.stamp self.now.commits.receipts }
         ensures placed { AllPlaced self.now }
     {
         self.history.show();
@@ -181,8 +176,8 @@ impl<K: Log, S: Receipts> Seat<K, S> {
 impl<K: Log> Seat<K> {
     /// Returns the receipt with this number, from 0. Returns `None` if there is none.
     pub fn receipt(&self, number: usize) -> Option<&Receipt>
-        ensures some { IfSome result (λ receipt. slice_get self.now.sitting.receipts number ≡ Some receipt.now) }
-        ensures none { IfNone result (length self.now.sitting.receipts ≤ number) }
+        ensures some { IfSome result (λ receipt. slice_get self.now.commits.receipts number ≡ Some receipt.now) }
+        ensures none { IfNone result (length self.now.commits.receipts ≤ number) }
     {
         self.history.receipt(number)
     }

@@ -5,16 +5,16 @@ ghost use Rattle.txc_table.specs.Built.{IsBuilt};
 ghost use Rattle.txc_table.specs.Seen.{IsBroadcastAt, IsSeen};
 
 use crate::making::{make_chans, make_drafts, make_histories, make_lines, make_seats};
-use crate::members::Members;
 use crate::seat::Seat;
 use crate::shelves::Shelves;
+use crate::table_seats::TableSeats;
 use std::alloc::Global;
 use std::marker::Model;
 use txc_base::{Kind, List};
 use txc_cast::Sight;
 use txc_chan::{Decl, FullLog, Log, kinds_of};
 use txc_table_lines::Lines;
-use txc_table_report::{Limits, TableFault, why_not};
+use txc_table_report::{Limits, TableFault, table_fault};
 use txc_table_seat::Receipts;
 use txc_table_wait::WaitQueue;
 
@@ -39,24 +39,24 @@ pub struct Table<K: Log = FullLog> {
     lines: Lines<K>,
     shelves: Shelves<K>,
     kinds: List<Kind>,
-    members: Members,
+    table_seats: TableSeats,
     // Notifies the seats that wait for what a commit changed, after its locks are released.
     wait_queue: WaitQueue,
 }
 
 impl<K: Log> Model for Table<K> {
-    ghost use Rattle.txc_table.specs.Table.{IsTabled, TableView, table_lines};
+    ghost use Rattle.txc_table.specs.Table.{IsValidTable, TableView, table_lines};
 
     ghost Value = { TableView };
 
     ghost view = { λ table. record {
-      lines = table_lines table.members table.lines;
+      lines = table_lines table.table_seats table.lines;
       made = table.shelves;
       kinds = table.kinds;
-      seats = table.members.seats;
+      seats = table.table_seats.seats;
     } };
 
-    ghost invariant = { λ table. IsTabled K.shelves table.lines table.shelves table.kinds table.members.seats };
+    ghost invariant = { λ table. IsValidTable K.shelves table.lines table.shelves table.kinds table.table_seats.seats };
 }
 
 impl<K: Log> Table<K> {
@@ -87,7 +87,7 @@ impl<K: Log> Table<K> {
         ensures fine { OnOk result (refusal_of limits decls.now seats ≡ None) }
         ensures err { IfErr result (λ fault. refusal_of limits decls.now seats ≡ reason fault) }
     {
-        if let Some(fault) = why_not(limits, decls, seats) {
+        if let Some(fault) = table_fault(limits, decls, seats) {
             return Err(fault);
         }
         let channels = decls.len() as u16;
@@ -98,12 +98,12 @@ impl<K: Log> Table<K> {
         let drafts = make_drafts(alloc, seats)?;
         let wait_queue = WaitQueue::new(alloc, channels, seats)?;
         let room = Vec::with_capacity(alloc, usize::from(seats))?;
-        let (members, made) = make_seats(&lines, histories, drafts, room, shares);
+        let (table_seats, made) = make_seats(&lines, histories, drafts, room, shares);
         let table = Table {
             lines,
             shelves,
             kinds: List::from_vec(kinds),
-            members,
+            table_seats,
             wait_queue,
         };
         Ok((table, made))
@@ -120,7 +120,7 @@ impl<K: Log> Table<K> {
     pub fn seats(&self) -> u16
         ensures { result ≡ self.now.seats }
     {
-        self.members.count()
+        self.table_seats.count()
     }
 
     /// Returns the item at a slot of a broadcast channel's shelf. The shelf has each written item, also those of a

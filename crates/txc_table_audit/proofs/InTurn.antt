@@ -5,7 +5,7 @@ use Rattle.std.proofs.lemmas.Option.{get_or_from_slice_get, slice_get-get_or, sl
 use Rattle.std.proofs.Math.Nat.{eq-or-lt_of_le}
 use Rattle.txc_txn.specs.declared.receipt.Receipt.{Receipt}
 use Rattle.txc_txn_history.specs.Events.{IsInTurn}
-use Rattle.txc_table_audit.specs.Turns.{stamp_before}
+use Rattle.txc_table_audit.specs.ReceiptKeys.{stamp_before}
 
 -- the first so many receipts of a seat name it, with rising serials and with stamps that don't fall
 pub record IsInTurnSoFar (seat : ℕ) (receipts : List Receipt) (count : ℕ) : Type 0 where
@@ -96,7 +96,7 @@ next_more seat receipts before nth e d next lt names follows so = one_more seat 
 pub other_seat : (seat : ℕ) (receipts : List Receipt) (nth : ℕ) (d : Receipt) → nth < length receipts
     → ¬ ((slice_index_or receipts nth d).tag.seat ≡ seat)
     → ¬ IsInTurn seat receipts
-other_seat seat receipts nth d lt other turn = other (turn.own nth d lt)
+other_seat seat receipts nth d lt other key = other (key.own nth d lt)
 
 -- a receipt does not follow the one before it
 pub not_next : (seat : ℕ) (receipts : List Receipt) (before nth : ℕ) (e d : Receipt) → before + 1 ≡ nth
@@ -104,12 +104,12 @@ pub not_next : (seat : ℕ) (receipts : List Receipt) (before nth : ℕ) (e d : 
     → ¬ (((slice_index_or receipts before e).tag.serial < (slice_index_or receipts nth d).tag.serial)
     × ((slice_index_or receipts before e).tag.stamp ≤ (slice_index_or receipts nth d).tag.stamp))
     → ¬ IsInTurn seat receipts
-not_next seat receipts before nth e d next lt not turn =
+not_next seat receipts before nth e d next lt not key =
     let at : slice_get receipts before ≡ Some (slice_index_or receipts before e) =
     slice_get-get_or receipts before e (omega (arith, lt, next)) in
     let at' : slice_get receipts (before + 1) ≡ Some (slice_index_or receipts nth d) = ap (slice_get receipts) next
     ∙ slice_get-get_or receipts nth d lt in
     not (
-      turn.serials before (slice_index_or receipts before e) (slice_index_or receipts nth d) at at',
-      turn.stamps before (slice_index_or receipts before e) (slice_index_or receipts nth d) at at',
+      key.serials before (slice_index_or receipts before e) (slice_index_or receipts nth d) at at',
+      key.stamps before (slice_index_or receipts before e) (slice_index_or receipts nth d) at at',
     )

@@ -6,18 +6,18 @@ use Rattle.txc_txn.specs.Maps.{Map}
 use Rattle.txc_txn.specs.Opening.{opening_map}
 use Rattle.txc_txn.specs.declared.report.Report.{Report}
 use Rattle.txc_table_audit.specs.declared.fault.AuditFault.{AuditFault}
-use Rattle.txc_table_audit.specs.declared.fault.AuditFault.TheVariants.{WrongReply, WrongLeft, OutOfOrder, NoMemory}
+use Rattle.txc_table_audit.specs.declared.fault.AuditFault.TheVariants.{WrongReply, WrongAccount, OutOfOrder, NoMemory}
 use Rattle.txc_table_audit.specs.declared.ranked.Ranked.{Ranked}
 use Rattle.txc_txn_history.specs.Events.{Event}
 use Rattle.txc_txn_history.specs.OneOrder.{IsOneOrder, Shows}
 use Rattle.txc_table_audit.specs.Ranks.{rank_of}
-use Rattle.txc_table_audit.specs.Refused.{IsFirstUnlike, IsWrongEnd, Refuses}
+use Rattle.txc_table_audit.specs.Refused.{IsFirstMismatch, IsWrongEnd, Refuses}
 use Rattle.txc_table_audit.proofs.OneOrder.{only_order}
 use Rattle.txc_table_audit.proofs.OneRun.{occurs_at, one_end}
 
 -- each of its transactions is kept and gives its receipt
 none_unlike : (decls : List Decl) (seats : List (List CheckedView)) (report : Report) (order : List Event) (rank : ℕ)
-    → IsOneOrder decls seats report order → ¬ IsFirstUnlike (opening_map decls) order rank
+    → IsOneOrder decls seats report order → ¬ IsFirstMismatch (opening_map decls) order rank
 none_unlike decls seats report order rank is first =
     let occurs = occurs_at (opening_map decls) order is.is_run.left rank first.here first.event is.is_run.runs
     first.runs first.there in
@@ -40,8 +40,8 @@ never_refused decls seats report order (OutOfOrder seat) is says =
 never_refused decls seats report order (WrongReply rank) is says =
     let same : says.0 ≡ order = only_order seats report.receipts says.0 order says.1.0 is.is_order in
     absurd (none_unlike decls seats report order rank is
-    (subst (λ (events : List Event). IsFirstUnlike (opening_map decls) events rank) same says.1.1))
-never_refused decls seats report order (WrongLeft chan) is says =
+    (subst (λ (events : List Event). IsFirstMismatch (opening_map decls) events rank) same says.1.1))
+never_refused decls seats report order (WrongAccount chan) is says =
     let same : says.0 ≡ order = only_order seats report.receipts says.0 order says.1.0 is.is_order in
     absurd (none_wrong decls seats report order chan is
     (subst (λ (events : List Event). IsWrongEnd (opening_map decls) events report.accounts chan) same says.1.1))

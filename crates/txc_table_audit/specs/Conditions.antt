@@ -1,6 +1,6 @@
 -- What can be audited.
 use Rattle.std.specs.Prelude.{◌≡◌, ℕ, ◌<◌, ◌≤◌, None, List, length, slice_get, All}
-use Rattle.txc_base.specs.declared.limits.TheConstants.{MOST_CHANNELS_OF_LARGE, MOST_SEATS_OF_LARGE}
+use Rattle.txc_base.specs.declared.limits.TheConstants.{MAX_CHANNELS_OF_LARGE, MAX_SEATS_OF_LARGE}
 use Rattle.txc_chan.specs.declared.decl.Decl.{Decl}
 use Rattle.txc_chan.specs.Limits.{first_fault}
 use Rattle.txc_txn_check.specs.Limits.{CheckedView}
@@ -15,10 +15,10 @@ use Rattle.txc_chan.specs.Decls.{kinds_in}
 
 -- the meaning of a condition
 abbrev pub Holds : Condition → List Decl → List (List CheckedView) → Report → Type 0
-Holds FewChannels decls seats report = length decls ≤ MOST_CHANNELS_OF_LARGE
+Holds FewChannels decls seats report = length decls ≤ MAX_CHANNELS_OF_LARGE
 Holds ChannelsCanBeMade decls seats report = first_fault decls ≡ None
 Holds AccountForEach decls seats report = length report.accounts ≡ length decls
-Holds FewSeats decls seats report = length seats ≤ MOST_SEATS_OF_LARGE
+Holds FewSeats decls seats report = length seats ≤ MAX_SEATS_OF_LARGE
 Holds ReceiptsForEach decls seats report = HasBegun report.receipts seats
 Holds TransactionsFit decls seats report = All (All (λ plan. Fits (slice_get (kinds_in decls)) plan.steps)) seats
 

@@ -1,6 +1,6 @@
 pub mod Kinds
 pub mod Ranks
-pub mod Turns
+pub mod ReceiptKeys
 pub mod Fault
 pub mod Refused
 pub mod Conditions

@@ -7,7 +7,7 @@ use Rattle.txc_txn.specs.declared.report.Report.{Report}
 use Rattle.txc_txn_check.specs.Limits.{CheckedView}
 use Rattle.txc_txn.specs.Maps.{Map}
 use Rattle.txc_table_audit.specs.declared.fault.AuditFault.{AuditFault}
-use Rattle.txc_table_audit.specs.declared.fault.AuditFault.TheVariants.{WrongReply, WrongLeft, OutOfOrder, NoMemory}
+use Rattle.txc_table_audit.specs.declared.fault.AuditFault.TheVariants.{WrongReply, WrongAccount, OutOfOrder, NoMemory}
 use Rattle.txc_txn_history.specs.Events.{Event, AreInTurn, IsInTurn}
 use Rattle.txc_txn.specs.Opening.{opening_map}
 use Rattle.txc_txn_history.specs.OneOrder.{IsOrder, Occurs, Runs, Shows}
@@ -21,7 +21,7 @@ pub record IsFirstOut (receipts : List (List Receipt)) (seat : ℕ) : Type 0 whe
 
 -- from these channels on, the events before this rank run; then the event at this rank does not commit, or it commits
 -- with another receipt
-pub record IsFirstUnlike (m : Map) (order : List Event) (rank : ℕ) : Type 0 where
+pub record IsFirstMismatch (m : Map) (order : List Event) (rank : ℕ) : Type 0 where
   pub here : Map
   pub runs : Runs m (take rank order) here
   pub event : Event
@@ -44,16 +44,16 @@ pub record IsWrongEnd (m : Map) (order : List Event) (accounts : List Account) (
 -- the meaning of a fault for an order that is run from these channels on
 abbrev pub RefusesRun : Map → List Event → List Account → AuditFault → Type 0
 RefusesRun m order accounts (OutOfOrder seat) = ⊥
-RefusesRun m order accounts (WrongReply rank) = IsFirstUnlike m order rank
-RefusesRun m order accounts (WrongLeft chan) = IsWrongEnd m order accounts chan
+RefusesRun m order accounts (WrongReply rank) = IsFirstMismatch m order rank
+RefusesRun m order accounts (WrongAccount chan) = IsWrongEnd m order accounts chan
 RefusesRun m order accounts NoMemory = Unit {0}
 
 -- the meaning of a fault; `NoMemory` says that each seat's receipts are in turn, which is tested first
 abbrev pub Refuses : List Decl → List (List CheckedView) → Report → AuditFault → Type 0
 Refuses decls seats report (OutOfOrder seat) = IsFirstOut report.receipts seat
 Refuses decls seats report (WrongReply rank) =
-    (order : List Event) × (IsOrder seats report.receipts order × IsFirstUnlike (opening_map decls) order rank)
-Refuses decls seats report (WrongLeft chan) =
+    (order : List Event) × (IsOrder seats report.receipts order × IsFirstMismatch (opening_map decls) order rank)
+Refuses decls seats report (WrongAccount chan) =
     (order : List Event) × (IsOrder seats report.receipts order
     × IsWrongEnd (opening_map decls) order report.accounts chan)
 Refuses decls seats report NoMemory = AreInTurn report.receipts

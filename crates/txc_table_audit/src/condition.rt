@@ -1,15 +1,15 @@
 // The conditions of the audit.
 ghost use Rattle.std.specs.Prelude.{◌≡◌, ◌<◌, ◌≤◌, ◌↔◌, None, length, map, slice_get, take, All, IsTrue, MatchOption};
-ghost use Rattle.txc_base.specs.declared.limits.TheConstants.{MOST_CHANNELS_OF_LARGE};
+ghost use Rattle.txc_base.specs.declared.limits.TheConstants.{MAX_CHANNELS_OF_LARGE};
 ghost use Rattle.txc_chan.specs.Limits.{first_fault};
 ghost use Rattle.txc_txn_check.specs.Steps.{Fits};
 ghost use Rattle.txc_table_audit.specs.Conditions.{IsAuditable, IsFirstUnmet};
 ghost use Rattle.txc_txn_history.specs.Events.{HasBegun};
-ghost use Rattle.txc_table_audit.specs.Turns.{at_seat};
+ghost use Rattle.txc_table_audit.specs.ReceiptKeys.{at_seat};
 ghost use Rattle.txc_chan.specs.Decls.{kinds_in};
 
 use crate::transactions::{Lists, Transactions};
-use txc_base::{Kind, List, MOST_CHANNELS_OF_LARGE, MOST_SEATS_OF_LARGE};
+use txc_base::{Kind, List, MAX_CHANNELS_OF_LARGE, MAX_SEATS_OF_LARGE};
 use txc_chan::Decl;
 use txc_txn::{Receipt, Report};
 use txc_txn_check::Checked;
@@ -32,11 +32,11 @@ pub enum Condition {
 }
 
 /// Returns the kinds of the channels, then `Queue`.
-pub(crate) fn kinds_of(decls: &[Decl]) -> [Kind; MOST_CHANNELS_OF_LARGE]
-    requires { length decls.now ≤ MOST_CHANNELS_OF_LARGE }
+pub(crate) fn kinds_of(decls: &[Decl]) -> [Kind; MAX_CHANNELS_OF_LARGE]
+    requires { length decls.now ≤ MAX_CHANNELS_OF_LARGE }
     ensures { take (length decls.now) result ≡ kinds_in decls.now }
 {
-    let mut kinds = [Kind::Queue; MOST_CHANNELS_OF_LARGE];
+    let mut kinds = [Kind::Queue; MAX_CHANNELS_OF_LARGE];
     for chan in 0..decls.len() {
         kinds[chan] = decls[chan].kind;
     }
@@ -107,7 +107,7 @@ pub fn find_unmet_of<T: Transactions>(
         (IsAuditable decls.now (T.plans transactions.now) report.now)
         (λ condition. IsFirstUnmet decls.now (T.plans transactions.now) report.now condition) }
 {
-    if decls.len() > MOST_CHANNELS_OF_LARGE {
+    if decls.len() > MAX_CHANNELS_OF_LARGE {
         return Some(Condition::FewChannels);
     }
     if !can_be_made(decls) {
@@ -116,7 +116,7 @@ pub fn find_unmet_of<T: Transactions>(
     if report.accounts.as_slice().len() != decls.len() {
         return Some(Condition::AccountForEach);
     }
-    if transactions.seats() > MOST_SEATS_OF_LARGE {
+    if transactions.seats() > MAX_SEATS_OF_LARGE {
         return Some(Condition::FewSeats);
     }
     if !has_begun(report.receipts.as_slice(), transactions) {

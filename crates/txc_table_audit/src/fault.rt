@@ -13,7 +13,7 @@ pub enum AuditFault {
     WrongReply(usize),
     /// The closed flag, the log or the lists of this channel differ.
     #[error("channel {0} differs")]
-    WrongLeft(u16),
+    WrongAccount(u16),
     /// The receipts of this seat name another seat, their serials do not rise, or their stamps fall.
     #[error("seat {0} is out of order")]
     OutOfOrder(u16),
@@ -29,7 +29,7 @@ impl AuditFault {
     {
         match self {
             AuditFault::WrongReply(_) => 1,
-            AuditFault::WrongLeft(_) => 2,
+            AuditFault::WrongAccount(_) => 2,
             AuditFault::OutOfOrder(_) => 3,
             AuditFault::NoMemory => 4,
         }

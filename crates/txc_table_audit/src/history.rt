@@ -1,6 +1,6 @@
 // The audit of a report.
 ghost use Rattle.std.specs.Prelude.{◌≡◌, ◌≤◌, List, map, length, slice_get, All, IfErr, IfOk, MatchResult, OnOk};
-ghost use Rattle.txc_base.specs.declared.limits.TheConstants.{MOST_CHANNELS_OF_LARGE};
+ghost use Rattle.txc_base.specs.declared.limits.TheConstants.{MAX_CHANNELS_OF_LARGE};
 ghost use Rattle.txc_txn_check.specs.Steps.{Fits};
 ghost use Rattle.txc_txn.specs.Plain.{chan_in};
 ghost use Rattle.txc_table_audit.specs.Conditions.{IsAuditable};
@@ -8,15 +8,15 @@ ghost use Rattle.txc_txn_history.specs.Events.{Event, HasBegun};
 ghost use Rattle.txc_txn_history.specs.OneOrder.{IsOneOrder, IsOneRun};
 ghost use Rattle.txc_table_audit.specs.Ranks.{rank_of};
 ghost use Rattle.txc_table_audit.specs.Refused.{Refuses, RefusesRun};
-ghost use Rattle.txc_table_audit.specs.Turns.{IsPlace, event_at};
+ghost use Rattle.txc_table_audit.specs.ReceiptKeys.{IsKey, event_at};
 
 use crate::fault::AuditFault;
-use crate::order::{find_unlike, list_ranks, sort_turns};
+use crate::key::ReceiptKey;
+use crate::order::{find_mismatch, list_ranks, sort_keys};
 use crate::ranked::Ranked;
 use crate::rerun::Rerun;
 use crate::seats::find_out_of_order;
 use crate::transactions::{Lists, Transactions};
-use crate::turn::Turn;
 use std::alloc::Global;
 use std::sync::Wait;
 use txc_chan::Decl;
@@ -24,32 +24,32 @@ use txc_txn::Report;
 use txc_txn_check::Checked;
 
 /// Runs all transactions in this order, and compares the results with a report. Returns `WrongReply` with the rank of
-/// the first transaction that does not commit or gives another receipt. Otherwise returns `WrongLeft` with the first
+/// the first transaction that does not commit or gives another receipt. Otherwise returns `WrongAccount` with the first
 /// channel that is left in another state. Returns `NoMemory` if allocation fails.
 fn compare<R: Wait, T: Transactions>(
     rt: &R,
     rerun: &mut Rerun,
     report: &Report,
     transactions: &T,
-    turns: &[Turn],
+    keys: &[ReceiptKey],
 ) -> Result<(), AuditFault>
-    requires few { length report.now.accounts ≤ MOST_CHANNELS_OF_LARGE }
+    requires few { length report.now.accounts ≤ MAX_CHANNELS_OF_LARGE }
     requires there { length report.now.accounts ≤ length rerun.old.kinds }
     requires fits { All (All (λ plan. Fits (slice_get rerun.old.kinds) plan.steps)) (T.plans transactions.now) }
     requires begun { HasBegun report.now.receipts (T.plans transactions.now) }
-    requires places { All (IsPlace report.now.receipts) turns.now }
-    ensures ok { let order = map (event_at (T.plans transactions.now) report.now.receipts) turns.now in
+    requires keys { All (IsKey report.now.receipts) keys.now }
+    ensures ok { let order = map (event_at (T.plans transactions.now) report.now.receipts) keys.now in
         OnOk result (IsOneRun (chan_in rerun.old.held) order report.now.accounts) }
     ensures err { let order = map (event_at (T.plans transactions.now) report.now.receipts)
-        turns.now in
+        keys.now in
         IfErr result (λ fault. RefusesRun (chan_in rerun.old.held) order report.now.accounts fault) }
 {
     let receipts = report.receipts.as_slice();
-    if let Some(rank) = find_unlike(rt, rerun, receipts, transactions, turns)? {
+    if let Some(rank) = find_mismatch(rt, rerun, receipts, transactions, keys)? {
         return Err(AuditFault::WrongReply(rank));
     }
-    if let Some(chan) = rerun.find_wrong_left(report.accounts.as_slice())? {
-        return Err(AuditFault::WrongLeft(chan));
+    if let Some(chan) = rerun.find_wrong_account(report.accounts.as_slice())? {
+        return Err(AuditFault::WrongAccount(chan));
     }
     Ok(())
 }
@@ -76,10 +76,10 @@ pub fn audit_of<R: Wait, T: Transactions>(
     if let Some(seat) = find_out_of_order(receipts) {
         return Err(AuditFault::OutOfOrder(seat));
     }
-    let turns = sort_turns(alloc, receipts)?;
+    let keys = sort_keys(alloc, receipts)?;
     let mut rerun = Rerun::build(alloc, decls)?;
-    compare(rt, &mut rerun, report, transactions, turns.as_slice())?;
-    Ok(list_ranks(alloc, turns.as_slice())?)
+    compare(rt, &mut rerun, report, transactions, keys.as_slice())?;
+    Ok(list_ranks(alloc, keys.as_slice())?)
 }
 
 /// Checks whether a report is what one thread would have given. `find_unmet` says which reports can be audited. For
@@ -87,7 +87,7 @@ pub fn audit_of<R: Wait, T: Transactions>(
 /// declared, in the order of the stamps, seats and serials of their receipts. Each must commit and give exactly its
 /// receipt. At the end each account must have its channel's closed flag, log and lists. The kind, bound, first readers
 /// and slots of an account are not compared. Returns these transactions in that order. Otherwise returns the first
-/// fault: `OutOfOrder`, by seats, then `WrongReply`, by ranks, then `WrongLeft`, by channels. Returns `NoMemory` if
+/// fault: `OutOfOrder`, by seats, then `WrongReply`, by ranks, then `WrongAccount`, by channels. Returns `NoMemory` if
 /// allocation fails, but never in place of `OutOfOrder`. If the report is one history of these transactions, returns
 /// the order of that history or `NoMemory`.
 pub fn audit<R: Wait>(

@@ -7,12 +7,12 @@
 mod condition;
 mod fault;
 mod history;
+mod key;
 mod order;
 mod ranked;
 mod rerun;
 mod seats;
 mod transactions;
-mod turn;
 
 pub use condition::{Condition, find_unmet, find_unmet_of};
 pub use fault::AuditFault;

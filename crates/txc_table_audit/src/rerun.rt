@@ -1,8 +1,8 @@
 // Channels on which transactions are run again.
 ghost use Rattle.std.specs.Prelude.{◌≡◌, ◌≢◌, ◌≤◌, ◌↔◌, ℕ, None, Some, Ok, Err, false, length, map, slice_get, IsTrue};
 ghost use Rattle.std.specs.Prelude.{IfOk, MatchOption};
-ghost use Rattle.txc_base.specs.declared.limits.TheConstants.{MOST_CHANNELS_OF_LARGE};
-ghost use Rattle.txc_chan.specs.declared.account.Account.{Account as GhostLog};
+ghost use Rattle.txc_base.specs.declared.limits.TheConstants.{MAX_CHANNELS_OF_LARGE};
+ghost use Rattle.txc_chan.specs.declared.account.Account.{Account as Accounts};
 ghost use Rattle.txc_chan.specs.Limits.{first_fault};
 ghost use Rattle.txc_chan.specs.Logged.{opened};
 ghost use Rattle.txc_txn_check.specs.Steps.{Fits};
@@ -41,7 +41,7 @@ impl Model for Rerun {
 }
 
 /// Returns whether two accounts have the same closed flag, log and lists.
-fn same_left(one: &Account, other: &Account) -> bool
+fn is_same_account(one: &Account, other: &Account) -> bool
     ensures { IsTrue result ↔ ((one.now.closed ≡ other.now.closed)
         × ((one.now.log ≡ other.now.log) × (one.now.remaining ≡ other.now.remaining))) }
 {
@@ -66,7 +66,7 @@ impl Rerun {
     /// Makes channels as they are declared. There must be at most 1,024, and it must be possible to make each. Returns
     /// `AllocError` if allocation fails.
     pub fn build(alloc: Global, decls: &[Decl]) -> Result<Rerun, AllocError>
-        requires few { length decls.now ≤ MOST_CHANNELS_OF_LARGE }
+        requires few { length decls.now ≤ MAX_CHANNELS_OF_LARGE }
         requires made { first_fault decls.now ≡ None }
         ensures held { IfOk result (λ rerun. map (λ held. held.logged) rerun.held ≡ map opened decls.now) }
         ensures kinds { IfOk result (λ rerun. rerun.kinds ≡ kinds_in decls.now) }
@@ -107,11 +107,11 @@ impl Rerun {
 
     /// Returns the first channel whose account has another closed flag, log or lists, or `None`. Returns `AllocError`
     /// if allocation fails.
-    pub fn find_wrong_left(&self, accounts: &[Account]) -> Result<Option<u16>, AllocError>
-        requires few { length accounts.now ≤ MOST_CHANNELS_OF_LARGE }
+    pub fn find_wrong_account(&self, accounts: &[Account]) -> Result<Option<u16>, AllocError>
+        requires few { length accounts.now ≤ MAX_CHANNELS_OF_LARGE }
         requires there { length accounts.now ≤ length self.now.kinds }
         ensures { IfOk result (λ found. MatchOption found
-            ((n : ℕ) (account : GhostLog) → slice_get accounts.now n ≡ Some account
+            ((n : ℕ) (account : Accounts) → slice_get accounts.now n ≡ Some account
             → Shows account (chan_in self.now.held n))
             (λ chan. IsFirstWrong accounts.now (chan_in self.now.held) chan)) }
     {
@@ -119,7 +119,7 @@ impl Rerun {
             let Ok(left) = self.plain.account(chan as u16) else {
                 return Err(AllocError);
             };
-            if !same_left(&accounts[chan], &left) {
+            if !is_same_account(&accounts[chan], &left) {
                 return Ok(Some(chan as u16));
             }
         }

@@ -1,6 +1,6 @@
 // Whether each seat's receipts are in turn.
 ghost use Rattle.std.specs.Prelude.{◌<◌, ◌≤◌, ◌↔◌, length, IsTrue, MatchOption};
-ghost use Rattle.txc_base.specs.declared.limits.TheConstants.{MOST_SEATS_OF_LARGE};
+ghost use Rattle.txc_base.specs.declared.limits.TheConstants.{MAX_SEATS_OF_LARGE};
 ghost use Rattle.txc_txn_history.specs.Events.{AreInTurn, IsInTurn};
 ghost use Rattle.txc_table_audit.specs.Refused.{IsFirstOut};
 
@@ -35,7 +35,7 @@ fn is_in_turn(seat: u16, receipts: &[Receipt]) -> bool
 
 /// Returns the first seat whose receipts are not in turn, or `None`.
 pub fn find_out_of_order(receipts: &[Items<Receipt>]) -> Option<u16>
-    requires { length receipts.now ≤ MOST_SEATS_OF_LARGE }
+    requires { length receipts.now ≤ MAX_SEATS_OF_LARGE }
     ensures { MatchOption result (AreInTurn receipts.now) (λ seat. IsFirstOut receipts.now seat) }
 {
     for seat in 0..receipts.len() {

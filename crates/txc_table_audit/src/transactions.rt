@@ -5,7 +5,7 @@ use txc_txn_check::Checked;
 pub trait Transactions {
     ghost use Rattle.std.specs.Prelude.{◌≡◌, ◌<◌, List, length, slice_index_or};
     ghost use Rattle.txc_txn_check.specs.Limits.{CheckedView};
-    ghost use Rattle.txc_table_audit.specs.Turns.{at_seat, no_plan};
+    ghost use Rattle.txc_table_audit.specs.ReceiptKeys.{at_seat, no_plan};
 
     /// The transactions of each seat.
     ghost plans: { Self → List (List CheckedView) };

@@ -14,7 +14,7 @@ use Rattle.txc_base.specs.declared.op.Op.TheVariants.{IsClosed, IsEmpty, IsFull,
 use Rattle.txc_base.specs.declared.reply.Reply.TheVariants as reply
 use Rattle.txc_base.specs.declared.tag.Tag.{Tag}
 use Rattle.txc_base.specs.Channel.{Channel, list_of}
-use Rattle.txc_base.specs.declared.limits.TheConstants.{MOST_READERS}
+use Rattle.txc_base.specs.declared.limits.TheConstants.{MAX_READERS}
 use Rattle.txc_base.specs.Kinds.{is_bounded}
 use Rattle.txc_base.specs.Op.{chan_of}
 use Rattle.txc_base.specs.Operation.{Did, Replies, Waits, Stops, says, body_of, with_body, with_list, while_open}
@@ -104,7 +104,7 @@ showing_keeps c without h (item ∷ rest) = refl
 -- a new reader
 reader_keeps : (c : Channel) (made : ℕ → Act) (list : List Item) → KindStays c (reader_made c made list)
 reader_keeps c made list =
-    if_keeps c (nat_le MOST_READERS (length c.lists)) _
+    if_keeps c (nat_le MAX_READERS (length c.lists)) _
     (Replies (reply.Reader (length c.lists)) (made (length c.lists) ∷ []) (with_reader c list)) tt refl
 
 -- an operation

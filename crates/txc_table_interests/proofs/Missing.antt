@@ -19,7 +19,7 @@ use Rattle.txc_base.specs.Operation.{Waits, operate}
 use Rattle.txc_table_wait.specs.declared.change.Interest.{Interest}
 use Rattle.txc_txn_check.specs.declared.step.Step.{Step}
 use Rattle.txc_txn_check.specs.declared.step.Step.TheViews.{out-Step}
-use Rattle.txc_txn_check.specs.Limits.{most_declared}
+use Rattle.txc_txn_check.specs.Limits.{max_declared}
 use Rattle.txc_txn_check.specs.Steps.{all_true, every, is_on}
 use Rattle.txc_txn_check.proofs.Checking.{all_to}
 use Rattle.txc_txn_check.proofs.Folds.{every-Or}
@@ -32,7 +32,7 @@ use Rattle.txc_txn.specs.Run.{alternatives}
 use Rattle.txc_txn.specs.Transaction.{Ending, Kept, Again, Aborted, after_did, op_in, step_in, steps_in, start}
 use Rattle.txc_txn.specs.Transaction.{and_then}
 use Rattle.txc_txn.specs.Transaction.{or_else, greatest, is_worn, kept_tag}
-use Rattle.txc_table_interests.specs.Missed.{AllUnaffected, KindsAre, NoWakeIsMissed, is_awaited, names}
+use Rattle.txc_table_interests.specs.Missed.{AllUnaffected, KindsAre, NoLostWakeup, is_awaited, names}
 use Rattle.txc_table_interests.specs.Interests.{any_of_all, awaited, branch_interests, can_wait, few, first_awaited}
 use Rattle.txc_table_interests.specs.Interests.{first_interests}
 use Rattle.txc_table_interests.specs.Interests.{step_awaited, step_interests, with_interest}
@@ -214,7 +214,7 @@ module _ (kinds : ℕ → Option Kind) (declared : List ℕ) (m m' : Map) (a b :
       few_of : (o : Option (List Interest)) (interests : List Interest) → option_and_then few o ≡ Some interests
           → o ≡ Some interests
       few_of None interests e = e
-      few_of (Some ws) interests e = ap Some (cond_some (nat_le (length ws) most_declared) ws interests e).1
+      few_of (Some ws) interests e = ap Some (cond_some (nat_le (length ws) max_declared) ws interests e).1
 
   -- steps of which the first alone can wait
   firsts_still : (steps : List Step) (interests : List Interest) → first_interests kinds steps ≡ Some interests
@@ -252,8 +252,8 @@ again_or_worn true o cause e = inr refl
 again_or_worn false o cause e = inl e
 
 -- the law
-pub no_wake_is_missed : NoWakeIsMissed
-no_wake_is_missed kinds m m' tag declared steps cause named are again all =
+pub no_lost_wakeup : NoLostWakeup
+no_lost_wakeup kinds m m' tag declared steps cause named are again all =
     let before = unworn (is_worn tag.serial || is_worn (greatest m tag.stamp declared))
     (steps_in (kept_tag m tag declared) steps (start m)) cause again in
     let now = steps_still kinds declared m m' (kept_tag m tag declared) (kept_tag m' tag declared) refl are steps

@@ -16,7 +16,7 @@ use Rattle.txc_base.specs.Channel.{Channel}
 use Rattle.txc_base.specs.Log.{state}
 use Rattle.txc_base.specs.Op.{chan_of}
 use Rattle.txc_base.specs.Operation.{Did, Replies, Waits, Stops, operate}
-use Rattle.txc_base.specs.Reply.{last_of}
+use Rattle.txc_base.specs.Reply.{last_read_after}
 use Rattle.txc_chan.specs.Logged.{grown}
 use Rattle.txc_txn_check.specs.declared.step.Step.{Step}
 use Rattle.txc_txn_check.specs.declared.step.Step.TheVariants.{Do, Or, Retry}
@@ -54,7 +54,7 @@ equal_ends declared o o' p p' e f h =
 did_alike : (declared : List ℕ) (s t : State) (chan : ℕ) (a b : Tag) (did : Did) → Alike declared s t
     → AlikeEnds declared (after_did s chan a did) (after_did t chan b did)
 did_alike declared s t chan a b (Replies answer acts left) h = record {
-  last = ap (last_of answer) h.last;
+  last = ap (last_read_after answer) h.last;
   chans = λ n on.
       elim (eqb_tells n chan) [
         | inl k ↦ ap (λ (x : Bool). (if x then grown (s.chans chan) a acts left else s.chans n).channel) k.0

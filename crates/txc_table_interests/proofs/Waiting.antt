@@ -19,7 +19,7 @@ use Rattle.txc_base.specs.Kinds.{is_bounded}
 use Rattle.txc_base.specs.Operation.{Did, Waits, says, body_of, with_body, with_list, while_open, is_full, with_room}
 use Rattle.txc_base.specs.Operation.{is_plain_bounded, next_written, next_back, with_back, wrote, put_back, taking}
 use Rattle.txc_base.specs.Operation.{showing}
-use Rattle.txc_table_wait.specs.declared.change.Change.TheVariants.{Less, More}
+use Rattle.txc_table_wait.specs.declared.change.Change.TheVariants.{Removed, Added}
 use Rattle.txc_table_wait.specs.declared.change.Interest.{Interest}
 use Rattle.txc_base_laws.proofs.Acts.{Leads, leads}
 use Rattle.txc_base_laws.proofs.Lists.{at_set_other}
@@ -70,7 +70,7 @@ show_still c reader none unshut =
 
 -- nothing but an item that comes gives a reader something to read in an open channel
 nothing_stays : (c : Channel) (seat reader : ℕ) (a : Act) (c' : Channel) → Leads c seat a c'
-    → is_met More (changed_by a) ≡ false
+    → is_met Added (changed_by a) ≡ false
     → list_of c reader ≡ Some [] → c.closed ≡ false → (list_of c' reader ≡ Some []) × (c'.closed ≡ false)
 nothing_stays c seat reader (act.Wrote item) c' h unmet none unshut = cc
 nothing_stays c seat reader (act.Took taker item) c' h unmet none unshut = (
@@ -137,7 +137,8 @@ full_with_more : (bound m n : ℕ) → nat_le bound m ≡ true → m ≤ n → n
 full_with_more bound m n e le = grind (arith, nat_tests)
 
 -- nothing but an item that is taken gives room in an open channel
-full_stays : (c : Channel) (seat : ℕ) (a : Act) (c' : Channel) → Leads c seat a c' → is_met Less (changed_by a) ≡ false
+full_stays : (c : Channel) (seat : ℕ) (a : Act) (c' : Channel) → Leads c seat a c' → is_met Removed (changed_by a)
+    ≡ false
     → c.closed ≡ false → (is_bounded c.kind && is_full c) ≡ true → (c'.closed ≡ false)
     × ((is_bounded c'.kind && is_full c') ≡ true)
 full_stays c seat (act.Wrote item) c' h unmet unshut full =
@@ -168,7 +169,7 @@ plain_is_bounded MCast e = cc
 
 -- nothing can be put into a full queue with a plain bound
 nothing_goes_in : (c : Channel) (seat : ℕ) (a : Act) (c' : Channel) → Leads c seat a c'
-    → is_met Less (changed_by a) ≡ false
+    → is_met Removed (changed_by a) ≡ false
     → (is_plain_bounded c.kind && is_full c) ≡ true → ⊥
 nothing_goes_in c seat (act.Wrote item) c' h unmet full =
     let parts = and_parts (is_plain_bounded c.kind) (is_full c) full in

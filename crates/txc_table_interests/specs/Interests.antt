@@ -11,18 +11,18 @@ use Rattle.txc_base.specs.declared.op.Op.TheVariants.{Write, TryWrite, Read, Try
 use Rattle.txc_base.specs.declared.op.Op.TheVariants.{IsClosed, IsEmpty, IsFull, Dup, CloneReader, Flush, Length}
 use Rattle.txc_base.specs.Kinds.{is_bounded}
 use Rattle.txc_table_wait.specs.declared.change.Change.{Change}
-use Rattle.txc_table_wait.specs.declared.change.Change.TheVariants.{Any, Less, More}
+use Rattle.txc_table_wait.specs.declared.change.Change.TheVariants.{Any, Removed, Added}
 use Rattle.txc_table_wait.specs.declared.change.Interest.{Interest}
 use Rattle.txc_txn_check.specs.declared.step.Step.{Step, Step-F}
 use Rattle.txc_txn_check.specs.declared.step.Step.TheOpen.{Do, Or, Retry}
 use Rattle.txc_txn_check.specs.declared.step.Step.TheViews.{out-Step}
-use Rattle.txc_txn_check.specs.Limits.{most_declared}
+use Rattle.txc_txn_check.specs.Limits.{max_declared}
 
 -- how an act changes its channel: an item is added, an item is taken, or something else changes
 abbrev pub changed_by : Act → Change
-changed_by (Wrote item) = More
-changed_by (Took reader item) = Less
-changed_by (PutBackAct reader item) = More
+changed_by (Wrote item) = Added
+changed_by (Took reader item) = Removed
+changed_by (PutBackAct reader item) = Added
 changed_by Closed = Any
 changed_by (Begun reader) = Any
 changed_by (Cloned source reader) = Any
@@ -37,11 +37,11 @@ any_of_all chans = map any_of chans
 
 -- an interest in an item in a channel
 abbrev pub item_in : ℕ → Interest
-item_in chan = record { chan = chan; change = More }
+item_in chan = record { chan = chan; change = Added }
 
 -- an interest in room in a channel
 abbrev pub room_in : ℕ → Interest
-room_in chan = record { chan = chan; change = Less }
+room_in chan = record { chan = chan; change = Removed }
 
 -- a test: the channel exists, and its kind has a bound
 abbrev pub has_bound : Option Kind → Bool
@@ -105,7 +105,7 @@ branch_interests kinds (branch ∷ branches) = with_interest (first_awaited kind
 
 -- these interests, unless there are more than a transaction has channels
 abbrev pub few : List Interest → Option (List Interest)
-few interests = if nat_le (length interests) most_declared then Some interests else None
+few interests = if nat_le (length interests) max_declared then Some interests else None
 
 -- what the first step of a transaction awaits, looking at one layer
 abbrev pub step_interests : (ℕ → Option Kind) → Step-F Step → Option (List Interest)

@@ -13,9 +13,9 @@ use Rattle.txc_base.specs.Log.{after, state}
 use Rattle.txc_base.specs.Op.{chan_of}
 use Rattle.txc_base.specs.Operation.{Waits, operate}
 use Rattle.txc_table_wait.specs.declared.change.Change.{Change}
-use Rattle.txc_table_wait.specs.declared.change.Change.TheVariants.{Any, Less, More}
+use Rattle.txc_table_wait.specs.declared.change.Change.TheVariants.{Any, Removed, Added}
 use Rattle.txc_table_wait.specs.declared.change.Interest.{Interest}
-use Rattle.txc_table_wait.specs.Change.{is_less, is_more}
+use Rattle.txc_table_wait.specs.Change.{is_removed, is_added}
 use Rattle.txc_txn_check.specs.declared.step.Step.{Step}
 use Rattle.txc_txn_check.specs.Steps.{NamesOnly}
 use Rattle.txc_txn.specs.Maps.{Map}
@@ -24,8 +24,8 @@ use Rattle.txc_table_interests.specs.Interests.{awaited, changed_by, interests_o
 
 -- a test: a seat with an interest in the first change is notified when the second one happens; `Any` is every change
 abbrev pub is_met : Change → Change → Bool
-is_met More came = not (is_less came)
-is_met Less came = not (is_more came)
+is_met Added came = not (is_removed came)
+is_met Removed came = not (is_added came)
 is_met Any came = true
 
 -- a test: an interest matches an act in the channel with this number
@@ -68,8 +68,8 @@ KindsAre kinds declared m = (n : ℕ) → Contains declared n → kinds n ≡ So
 
 -- if a channel gains only entries that match no interest of a transaction, a transaction that had to be retried must
 -- still be retried for the same cause, or its stamp cannot be raised any more
-abbrev pub NoWakeIsMissed : Type 0
-NoWakeIsMissed = (kinds : ℕ → Option Kind) (before now : Map) (tag : Tag) (declared : List ℕ) (steps : List Step)
+abbrev pub NoLostWakeup : Type 0
+NoLostWakeup = (kinds : ℕ → Option Kind) (before now : Map) (tag : Tag) (declared : List ℕ) (steps : List Step)
     (cause : Cause)
     → NamesOnly declared steps → KindsAre kinds declared before
     → transaction before tag declared steps ≡ Again cause

@@ -9,18 +9,18 @@ ghost use Rattle.std.specs.Option.{option_and_then};
 use arrayvec::ArrayVec;
 use txc_base::{Act, Kind, List, Op};
 use txc_table_wait::{Change, Interest};
-use txc_txn_check::{Checked, MOST_DECLARED, Step};
+use txc_txn_check::{Checked, MAX_DECLARED, Step};
 
 /// The changes that a transaction waits for.
-pub type Interests = ArrayVec<Interest, MOST_DECLARED>;
+pub type Interests = ArrayVec<Interest, MAX_DECLARED>;
 
 /// Returns how an act changes its channel for the seats that wait.
 pub fn changed_by(act: &Act) -> Change
     ensures { result ≡ changed_by act.now }
 {
     match act {
-        Act::Wrote(_) | Act::PutBack(..) => Change::More,
-        Act::Took(..) => Change::Less,
+        Act::Wrote(_) | Act::PutBack(..) => Change::Added,
+        Act::Took(..) => Change::Removed,
         Act::Closed | Act::Begun(_) | Act::Cloned(..) => Change::Any,
     }
 }
@@ -125,8 +125,8 @@ fn awaited(kinds: &[Kind], op: &Op) -> Option<Interest>
 {
     let chan = op.chan();
     let change = match op {
-        Op::Read { .. } | Op::Peek { .. } => Change::More,
-        Op::Write { .. } | Op::PutBack { .. } if has_bound(kinds, chan) => Change::Less,
+        Op::Read { .. } | Op::Peek { .. } => Change::Added,
+        Op::Write { .. } | Op::PutBack { .. } if has_bound(kinds, chan) => Change::Removed,
         _ => return None,
     };
     Some(Interest { chan, change })

@@ -1,4 +1,4 @@
--- What the books and lists of a line count, through operations and commits.
+-- What the ledgers and lists of a line count, through operations and commits.
 use mathlib.Core.List.{IsPrefix}
 use Rattle.std.proofs.Math.Seq.{drop-append_seam}
 use Rattle.std.proofs.lemmas.List.{length-map, take-append-drop, take-append-le, take_all}
@@ -25,7 +25,7 @@ use Rattle.txc_table_line.specs.Stamps.{IsStamped}
 use Rattle.txc_table_line.specs.Marks.{AreMarks}
 use Rattle.txc_table_line.specs.declared.mark.Mark.{Mark}
 use Rattle.txc_base_ghost.specs.Last.{last_from}
-use Rattle.txc_table_line.specs.Ledgered.{IsLedgered}
+use Rattle.txc_table_line.specs.LineChan.{HasLedgers}
 
 -- the last of a list with one more is that one
 last_push : {X : Type 0} (f : X → ℕ) (n : ℕ) (xs : List X) (x : X) → last_from n (map f (xs ++ x ∷ [])) ≡ f x
@@ -79,9 +79,9 @@ marks_more old new marks are more = record {
   len = omega (arith, are.len, more.pending, ap length more.log, length-append old.log more.added);
 }
 
-ledgered_more : (total : ℕ) (log : List Entry) (made : ℕ) (marks : List Mark) (old new : Logged)
-    → IsLedgered old total log made marks → HasMore old new → IsLedgered new total log made marks
-ledgered_more total log made marks old new is more = record {
+line_chan_more : (total : ℕ) (log : List Entry) (made : ℕ) (marks : List Mark) (old new : Logged)
+    → HasLedgers old total log made marks → HasMore old new → HasLedgers new total log made marks
+line_chan_more total log made marks old new is more = record {
   counted = omega (arith, is.counted, more.pending, ap length more.log, length-append old.log more.added);
   stamped = subst (λ s. IsStamped s (take total new.log)) (sym more.stamp)
       (subst (λ l. IsStamped old.stamp (take total l)) (sym more.log)
@@ -93,18 +93,18 @@ ledgered_more total log made marks old new is more = record {
 }
 
 -- an operation adds to the log what can be undone, or nothing
-pub ledgered_op : (total : ℕ) (log : List Entry) (made : ℕ) (marks : List Mark) (old new : ChanView) (tag : Tag)
+pub line_chan_op : (total : ℕ) (log : List Entry) (made : ℕ) (marks : List Mark) (old new : ChanView) (tag : Tag)
     (last : Option ℕ) (op : Op) (result : Result Answer Stop)
-    → IsLedgered old.logged total log made marks
+    → HasLedgers old.logged total log made marks
     → IfOk result (λ answer. op_on old.logged tag last op ≡ did answer new.logged)
     → IfOk result (λ answer. UnlessReplied answer (new ≡ old))
-    → OnErr result (new ≡ old) → IsLedgered new.logged total log made marks
-ledgered_op total log made marks old new tag last op result is does same kept =
-    ledgered_more total log made marks old.logged new.logged is (result_more old new tag last op result does same kept)
+    → OnErr result (new ≡ old) → HasLedgers new.logged total log made marks
+line_chan_op total log made marks old new tag last op result is does same kept =
+    line_chan_more total log made marks old.logged new.logged is (result_more old new tag last op result does same kept)
 
 -- what was committed begins a log that can be undone
 pub begins : (total : ℕ) (log : List Entry) (made : ℕ) (marks : List Mark) (l : Logged)
-    → IsLedgered l total log made marks → IsPrefix log l.log
+    → HasLedgers l total log made marks → IsPrefix log l.log
 begins total log made marks l is =
     (drop total l.log, subst (λ s. s ++ drop total l.log ≡ l.log) (sym is.list) (take-append-drop total l.log))
 
@@ -127,12 +127,12 @@ marks_settled l marks tag are later = record {
 }
 
 -- a commit counts what could be undone, and lets the lists grow
-pub ledgered_settled : (total : ℕ) (log : List Entry) (made : ℕ) (marks : List Mark) (tag : Tag) (l : Logged)
-    → IsLedgered l total log made marks
+pub line_chan_settled : (total : ℕ) (log : List Entry) (made : ℕ) (marks : List Mark) (tag : Tag) (l : Logged)
+    → HasLedgers l total log made marks
     → All (λ entry. entry.tag.stamp ≡ tag.stamp) (last_entries l.pending l.log) → l.stamp < tag.stamp
-    → IsLedgered (settled tag.stamp l) (total + l.pending) l.log (made + 1)
+    → HasLedgers (settled tag.stamp l) (total + l.pending) l.log (made + 1)
     (marks ++ record { tag = tag; len = length l.log } ∷ [])
-ledgered_settled total log made marks tag l is all later = record {
+line_chan_settled total log made marks tag l is all later = record {
   counted = omega (arith, is.counted);
   stamped = stamped_settled total l.pending l.stamp tag.stamp l.log is.counted is.stamped later all;
   list = sym (take_all (total + l.pending) l.log (omega (arith, is.counted)));
@@ -154,11 +154,12 @@ last_one log entry =
     ap (λ k. drop k (log ++ entry ∷ [])) n ∙ drop-append_seam log (entry ∷ [])
 
 -- a write or a read that is committed at once counts its entry, and lets the lists grow
-pub ledgered_committed : (total : ℕ) (log : List Entry) (made : ℕ) (marks : List Mark) (tag : Tag) (op : Op) (act : Act)
+pub line_chan_committed : (total : ℕ) (log : List Entry) (made : ℕ) (marks : List Mark) (tag : Tag) (op : Op)
+    (act : Act)
     (old new : Logged)
-    → IsLedgered old total log made marks → IsCommittedOp tag op act old new → old.pending ≡ 0 → old.stamp < tag.stamp
-    → IsLedgered new (total + 1) new.log (made + 1) (marks ++ record { tag = tag; len = length new.log } ∷ [])
-ledgered_committed total log made marks tag op act old new is done clean later =
+    → HasLedgers old total log made marks → IsCommittedOp tag op act old new → old.pending ≡ 0 → old.stamp < tag.stamp
+    → HasLedgers new (total + 1) new.log (made + 1) (marks ++ record { tag = tag; len = length new.log } ∷ [])
+line_chan_committed total log made marks tag op act old new is done clean later =
     let entry : Entry = record { tag = tag; act = act } in
     let mid : Logged = grown old tag (act ∷ []) done.left in
     let more : HasMore old mid = record { added = entry ∷ []; log = refl; pending = refl; stamp = refl } in
@@ -167,19 +168,19 @@ ledgered_committed total log made marks tag op act old new is done clean later =
     subst (λ n. All (λ (e : Entry). e.tag.stamp ≡ tag.stamp) (last_entries n mid.log)) (sym one)
     (subst (λ es. All (λ (e : Entry). e.tag.stamp ≡ tag.stamp) es) (sym (last_one old.log entry))
     (All-cons (λ (e : Entry). e.tag.stamp ≡ tag.stamp) entry [] refl (λ k d lt. absurd (omega (arith, lt))))) in
-    subst (λ (l : Logged). IsLedgered l (total + 1) l.log (made + 1)
+    subst (λ (l : Logged). HasLedgers l (total + 1) l.log (made + 1)
     (marks ++ record { tag = tag; len = length l.log } ∷ [])) (sym done.settles)
-    (subst (λ n. IsLedgered (settled tag.stamp mid) (total + n) mid.log (made + 1)
+    (subst (λ n. HasLedgers (settled tag.stamp mid) (total + n) mid.log (made + 1)
     (marks ++ record { tag = tag; len = length mid.log } ∷ [])) one
-    (ledgered_settled total log made marks tag mid (ledgered_more total log made marks old mid is more) all later))
+    (line_chan_settled total log made marks tag mid (line_chan_more total log made marks old mid is more) all later))
 
 -- what is so of equal values
 pub same_ledgered : (l l' : Logged) (total total' made made' : ℕ) (log log' : List Entry) (marks marks' : List Mark)
     → l' ≡ l → total' ≡ total → log' ≡ log → made' ≡ made → marks' ≡ marks
-    → IsLedgered l total log made marks → IsLedgered l' total' log' made' marks'
+    → HasLedgers l total log made marks → HasLedgers l' total' log' made' marks'
 same_ledgered l l' total total' made made' log log' marks marks' el et eg em ek is =
-    subst (λ (k : Logged). IsLedgered k total' log' made' marks') (sym el)
-    (subst (λ n. IsLedgered l n log' made' marks') (sym et)
-    (subst (λ (es : List Entry). IsLedgered l total es made' marks') (sym eg)
-    (subst (λ n. IsLedgered l total log n marks') (sym em)
-    (subst (λ (ms : List Mark). IsLedgered l total log made ms) (sym ek) is))))
+    subst (λ (k : Logged). HasLedgers k total' log' made' marks') (sym el)
+    (subst (λ n. HasLedgers l n log' made' marks') (sym et)
+    (subst (λ (es : List Entry). HasLedgers l total es made' marks') (sym eg)
+    (subst (λ n. HasLedgers l total log n marks') (sym em)
+    (subst (λ (ms : List Mark). HasLedgers l total log made ms) (sym ek) is))))

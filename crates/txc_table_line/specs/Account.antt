@@ -1,21 +1,21 @@
 -- What is true of a snapshot of a channel.
 use Rattle.std.specs.Prelude.{◌≡◌, ◌≤◌, ℕ, List, length}
 use Rattle.txc_base.specs.declared.entry.Entry.{Entry}
-use Rattle.txc_base.specs.Fair.{written}
+use Rattle.txc_base.specs.InOrder.{written}
 use Rattle.txc_chan.specs.declared.account.Account.{Account}
 use Rattle.txc_chan.specs.declared.summary.Summary.{Summary}
 use Rattle.txc_chan.specs.declared.decl.Decl.{Decl}
 use Rattle.txc_chan.specs.Body.{slots_for}
 use Rattle.txc_chan.specs.Chan.{ObeysLaws, account_of, summary_of}
 use Rattle.txc_chan.specs.ChanView.{ChanView}
-use Rattle.txc_chan.specs.Logged.{IsLawful}
+use Rattle.txc_chan.specs.Logged.{MatchesLog}
 use Rattle.txc_table_line.specs.Stamps.{NeverFall}
 
 -- a snapshot of a lawful channel with this declaration, whose log has at least this many entries
 pub record IsAccount (decl : Decl) (amount : ℕ) (account : Account) : Type 0 where
   pub held : ChanView
   pub is : account ≡ account_of held
-  pub lawful : IsLawful held.logged
+  pub lawful : MatchesLog held.logged
   pub declared : held.logged.decl ≡ decl
   pub long : amount ≤ length account.log
   pub laws : ObeysLaws decl.kind account.log account.remaining

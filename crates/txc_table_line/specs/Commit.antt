@@ -2,7 +2,7 @@
 use Rattle.std.specs.Prelude.{◌≡◌, ◌+◌, List, [], ◌∷◌, ◌++◌, length}
 use mathlib.Core.List.{IsPrefix}
 use Rattle.txc_base.specs.declared.tag.Tag.{Tag}
-use Rattle.txc_chan.specs.Logged.{IsLawful, Logged}
+use Rattle.txc_chan.specs.Logged.{MatchesLog, Logged}
 use Rattle.txc_table_line.specs.Marks.{AreMarks}
 use Rattle.txc_table_line.specs.declared.mark.Mark.{Mark}
 use Rattle.txc_table_line.specs.SeatShare.{SeatShareView}
@@ -10,7 +10,7 @@ use Rattle.txc_table_line.specs.SeatShare.{SeatShareView}
 -- what was seen of the marks of a channel: all that it had when it was found, which began with what had been seen of
 -- them, and one with this tag at the end of the log that was left
 pub record HasCommitMark (found left : Logged) (tag : Tag) (old new : List Mark) : Type 0 where
-  pub lawful : IsLawful left
+  pub lawful : MatchesLog left
   pub before : List Mark
   pub are : AreMarks found before
   pub since : IsPrefix old before

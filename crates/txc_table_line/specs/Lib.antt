@@ -4,6 +4,6 @@ pub mod Stamps
 pub mod Marks
 pub mod Known
 pub mod Account
-pub mod Ledgered
+pub mod LineChan
 pub mod SeatShare
 pub mod Commit

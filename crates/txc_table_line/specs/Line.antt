@@ -3,7 +3,7 @@ use Rattle.std.specs.Prelude.{ℕ, List, slice_index_or}
 use Rattle.txc_base.specs.declared.kind.Kind.TheVariants.{Queue}
 use Rattle.txc_chan.specs.declared.decl.Decl.{Decl}
 
--- the names of a line's two books, and how many parts each of them has: one for each seat of the table
+-- the names of a line's two ledgers, and how many parts each of them has: one for each seat of the table
 pub record Books : Type 0 where
   pub entries : ℕ
   pub marks : ℕ
@@ -14,15 +14,15 @@ pub record LineLists : Type 0 where
   pub log : ℕ
   pub marks : ℕ
 
--- a line: what is declared there, and the names of its books and lists, which no other line has
+-- a line: what is declared there, and the names of its ledgers and lists, which no other line has
 pub record LineId : Type 0 where
   pub decl : Decl
-  pub books : Books
+  pub ledgers : Books
   pub lists : LineLists
 
--- shares of the books of a line: how many parts of each, how many entries they count, and how many marks
-pub record BookSharesView : Type 0 where
-  pub books : Books
+-- shares of the ledgers of a line: how many parts of each, how many entries they count, and how many marks
+pub record LedgerSharesView : Type 0 where
+  pub ledgers : Books
   pub parts : ℕ
   pub amount : ℕ
   pub made : ℕ

@@ -3,7 +3,7 @@ use Rattle.std.specs.Prelude.{◌≡◌, ℕ, ◌+◌, ◌<◌, ◌≤◌, List,
 use Rattle.txc_base_ghost.specs.Last.{last_from}
 use mathlib.Core.List.{IsPrefix}
 use Rattle.txc_base.specs.declared.tag.Tag.{Tag}
-use Rattle.txc_chan.specs.Logged.{Logged, IsLawful}
+use Rattle.txc_chan.specs.Logged.{Logged, MatchesLog}
 use Rattle.txc_table_line.specs.declared.mark.Mark.{Mark}
 
 -- the stamp of the last of these marks, 0 before the first
@@ -23,7 +23,7 @@ pub record AreMarks (l : Logged) (marks : List Mark) : Type 0 where
 
 -- a mark at the end of the log was added to a lawful channel's marks, which began with those seen before
 pub record HasNewMark (l : Logged) (tag : Tag) (old new : List Mark) : Type 0 where
-  pub lawful : IsLawful l
+  pub lawful : MatchesLog l
   pub before : List Mark
   pub are : AreMarks l before
   pub since : IsPrefix old before

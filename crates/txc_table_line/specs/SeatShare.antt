@@ -21,12 +21,13 @@ pub record SeatShareView : Type 0 where
 
 -- what is true of every share: the seat knows a channel that was there, whose log begins with what the seat has seen,
 -- and has made at most the greatest number of entries
-pub record IsTrue (s : SeatShareView) : Type 0 where
+pub record IsValidShare (s : SeatShareView) : Type 0 where
   pub known : IsKnown s.line.decl s.amount s.known
   pub since : IsPrefix s.log s.known.log
   pub few : s.amount ≤ GREATEST_NUMBER
 
--- one part of the line's books, a channel that has been there, whose log begins with what was seen of it, and an amount
+-- one part of the line's ledgers, a channel that has been there, whose log begins with what was seen of it, and an
+-- amount
 -- that a number can say
 pub record IsSeatShare (decl : Decl) (parts amount : ℕ) (log : List Entry) (l : Logged) : Type 0 where
   pub part : parts ≡ 1

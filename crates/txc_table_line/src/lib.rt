@@ -5,8 +5,8 @@
 //! handle does not block.
 #![tactic(auto)]
 
-mod book_shares;
-mod ledgered;
+mod ledger_shares;
+mod line_chan;
 mod line_guard;
 mod line_lock;
 mod locked_line;
@@ -14,10 +14,10 @@ mod mark;
 mod seat_share;
 mod snapshot_kind;
 
-pub use book_shares::BookShares;
-pub use ledgered::Ledgered;
+pub use ledger_shares::LedgerShares;
+pub use line_chan::LineChan;
 pub use line_guard::LineGuard;
-pub use line_lock::{HasLock, LineLock, OfLine};
+pub use line_lock::{AsLineLock, LineInvariant, LineLock};
 pub use locked_line::LockedLine;
 pub use mark::Mark;
 pub use seat_share::SeatShare;

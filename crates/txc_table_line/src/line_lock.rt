@@ -1,27 +1,27 @@
 // The lock of a line.
 ghost use Rattle.std.specs.Prelude.{◌≡◌, IfOk};
 
-use crate::ledgered::Ledgered;
+use crate::line_chan::LineChan;
 use std::alloc::{AllocError, Global};
 use std::snapshot::Snapshot;
 use std::sync::Wait;
 use txc_chan::Log;
-use txc_table_lock::{Fits, Lock};
+use txc_table_lock::{Lock, LockInvariant};
 
 /// What the label of a line's lock says of the value: it is the channel of that line.
-pub struct OfLine;
+pub struct LineInvariant;
 
-impl<K: Log> Fits<Ledgered<K>, Snapshot<Ledgered<K>>> for OfLine {
+impl<K: Log> LockInvariant<LineChan<K>, Snapshot<LineChan<K>>> for LineInvariant {
     ghost use Rattle.std.specs.Prelude.{◌≡◌};
 
-    ghost fits = { λ label channel. channel.line ≡ label.value.line };
+    ghost holds = { λ label channel. channel.line ≡ label.value.line };
 }
 
 /// The lock of a line. Its label says which line it is.
-pub type LineLock<K> = Lock<Ledgered<K>, Snapshot<Ledgered<K>>, OfLine>;
+pub type LineLock<K> = Lock<LineChan<K>, Snapshot<LineChan<K>>, LineInvariant>;
 
 /// The lock of a line, or a reference to it.
-pub trait HasLock<K: Log>: Drop {
+pub trait AsLineLock<K: Log>: Drop {
     ghost use Rattle.txc_table_lock.specs.Lock.{LockView};
     ghost use Rattle.txc_table_line.specs.Line.{LineId};
 
@@ -34,7 +34,7 @@ pub trait HasLock<K: Log>: Drop {
         ensures id { result.now.id ≡ (of_line self.now).id };
 }
 
-impl<K: Log> HasLock<K> for LineLock<K> {
+impl<K: Log> AsLineLock<K> for LineLock<K> {
     ghost of_line = { λ lock. record { label = lock.label.value.line; id = lock.id } };
 
     fn lock(&self) -> &LineLock<K> {
@@ -42,7 +42,7 @@ impl<K: Log> HasLock<K> for LineLock<K> {
     }
 }
 
-impl<'a, K: Log> HasLock<K> for &'a LineLock<K> {
+impl<'a, K: Log> AsLineLock<K> for &'a LineLock<K> {
     ghost of_line = { λ lock. record { label = lock.now.label.value.line; id = lock.now.id } };
 
     fn lock(&self) -> &LineLock<K> {
@@ -50,7 +50,7 @@ impl<'a, K: Log> HasLock<K> for &'a LineLock<K> {
     }
 }
 
-impl<K: Log> Ledgered<K> {
+impl<K: Log> LineChan<K> {
     /// Puts the channel under a lock, which is free. Returns `AllocError` if an allocation fails; the channel is then
     /// dropped.
     pub fn into_lock(self, alloc: Global) -> Result<LineLock<K>, AllocError>
@@ -62,7 +62,7 @@ impl<K: Log> Ledgered<K> {
 
     /// Takes the channel out of its lock, and undoes what was not committed. A lock whose guard was never dropped
     /// blocks for ever.
-    pub fn out_of<R: Wait>(rt: &R, lock: LineLock<K>) -> Ledgered<K>
+    pub fn from_lock<R: Wait>(rt: &R, lock: LineLock<K>) -> LineChan<K>
         ensures line { result.line ≡ lock.label.value.line }
         ensures clean { result.held.logged.pending ≡ 0 }
     {

@@ -1,51 +1,47 @@
 // A line that is locked.
-ghost use Rattle.std.specs.Prelude.{◌≡◌, ◌≢◌, ◌<◌, ◌≤◌, ◌+◌, ℕ, None, true, length, slice_get, All, IfErr, IfNone};
-ghost use Rattle.std.specs.Prelude.{IfOk, IfSome, OnErr};
+ghost use Rattle.std.specs.Prelude.{◌≡◌, ◌≢◌, ◌<◌, ◌≤◌, ◌+◌, ℕ, None, true, length, slice_get, IfErr, IfOk};
+ghost use Rattle.std.specs.Prelude.{IfSome, OnErr};
 ghost use mathlib.Core.List.{IsPrefix};
-ghost use Rattle.txc_base.specs.Kinds.{suits};
+ghost use Rattle.txc_base.specs.Kinds.{supports};
 ghost use Rattle.txc_base.specs.Operation.{Waits, operate};
-ghost use Rattle.txc_chan.specs.Body.{last_entries};
-ghost use Rattle.txc_chan.specs.Committed.{HasNoAct, IsCommittedOp, is_move};
-ghost use Rattle.txc_chan.specs.Logged.{IsLawful, Stopped, Undone, UnlessReplied, did, op_on, settled};
+ghost use Rattle.txc_chan.specs.Logged.{MatchesLog, Stopped, Undone, UnlessReplied, did, op_on};
 ghost use Rattle.txc_chan.specs.Chan.{account_of};
 ghost use Rattle.txc_table_line.specs.Account.{IsAccount, IsSnapshotOf};
-ghost use Rattle.txc_table_line.specs.Marks.{AreMarks, HasNewMark};
+ghost use Rattle.txc_table_line.specs.Marks.{AreMarks};
 ghost use Rattle.txc_table_line.specs.Known.{IsKnown};
-ghost use Rattle.txc_table_line.specs.Commit.{CountsOne};
 
-use crate::book_shares::BookShares;
-use crate::ledgered::Ledgered;
-use crate::line_lock::{HasLock, LineLock};
+use crate::ledger_shares::LedgerShares;
+use crate::line_chan::LineChan;
+use crate::line_lock::{AsLineLock, LineLock};
 use crate::seat_share::SeatShare;
 use crate::snapshot_kind::SnapshotKind;
-use std::alloc::AllocError;
 use std::marker::Model;
 use std::snapshot::Snapshot;
 use std::sync::Wait;
-use txc_base::{Act, Cause, Entry, Op, Stop, Tag};
+use txc_base::{Cause, Entry, Op, Stop, Tag};
 use txc_chan::{Answer, Append, FullLog, Log};
-use txc_table_lock::Loan;
+use txc_table_lock::LockToken;
 
 /// A line that is locked, until this is dropped, with its lock or a reference to it. In a contract it is its channel.
-pub struct LockedLine<K: Log, L: HasLock<K> = LineLock<K>> {
+pub struct LockedLine<K: Log, L: AsLineLock<K> = LineLock<K>> {
     pub(crate) lock: L,
-    pub(crate) loan: Loan<Ledgered<K>, Snapshot<Ledgered<K>>>,
+    pub(crate) token: LockToken<LineChan<K>, Snapshot<LineChan<K>>>,
 }
 
-impl<K: Log, L: HasLock<K>> Model for LockedLine<K, L> {
+impl<K: Log, L: AsLineLock<K>> Model for LockedLine<K, L> {
     ghost use Rattle.std.specs.Prelude.{◌≡◌};
     ghost use Rattle.txc_table_lock.specs.Lock.{HasValue};
-    ghost use Rattle.txc_table_line.specs.Ledgered.{LedgeredView, lent};
+    ghost use Rattle.txc_table_line.specs.LineChan.{LineChanView, lent};
 
-    ghost Value = { LedgeredView };
+    ghost Value = { LineChanView };
 
-    ghost view = { λ line. lent line.loan.seat.me.1 };
+    ghost view = { λ line. lent line.token.seat.me.1 };
 
-    ghost invariant = { λ line. (line.loan.seat.table_id ≡ (L.of_line line.lock).id)
-        × HasValue (λ channel. channel.line ≡ (L.of_line line.lock).label) line.loan.seat.me };
+    ghost invariant = { λ line. (line.token.seat.table_id ≡ (L.of_line line.lock).id)
+        × HasValue (λ channel. channel.line ≡ (L.of_line line.lock).label) line.token.seat.me };
 }
 
-impl<K: Log, L: HasLock<K>> LockedLine<K, L> {
+impl<K: Log, L: AsLineLock<K>> LockedLine<K, L> {
     /// Runs an operation on the channel, like `Chan::apply`. Returns the answer, or the stop of the operation. After a
     /// retry or an error the channel is unchanged. It blocks only if the handle permits it, on a broadcast channel.
     pub fn apply<R: Append>(
@@ -55,7 +51,7 @@ impl<K: Log, L: HasLock<K>> LockedLine<K, L> {
         op: &Op,
         last: Option<u64>,
     ) -> Result<Answer, Stop>
-        requires { suits self.old.held.logged.decl.kind op.now ≡ true }
+        requires { supports self.old.held.logged.decl.kind op.now ≡ true }
         ensures ok { IfOk result (λ answer. op_on self.old.held.logged tag last op.now
             ≡ did answer self.new.held.logged) }
         ensures err { IfErr result (λ stop. stop ≢ Stop.NoMemory
@@ -64,7 +60,7 @@ impl<K: Log, L: HasLock<K>> LockedLine<K, L> {
         ensures unchanged { OnErr result (self.new.held.logged ≡ self.old.held.logged) }
         ensures line { self.new.line ≡ self.old.line }
     {
-        self.loan
+        self.token
             .seat
             .slot_mut(self.lock.lock().shared(), 0)
             .apply(rt, tag, op, last)
@@ -76,7 +72,7 @@ impl<K: Log, L: HasLock<K>> LockedLine<K, L> {
         ensures undone { Undone self.old.held.logged self.new.held.logged }
         ensures line { self.new.line ≡ self.old.line }
     {
-        self.loan
+        self.token
             .seat
             .slot_mut(self.lock.lock().shared(), 0)
             .undo_last()
@@ -87,23 +83,23 @@ impl<K: Log, L: HasLock<K>> LockedLine<K, L> {
         ensures value { result ≡ self.old.held.logged.stamp }
         ensures same { self.new ≡ self.old }
     {
-        self.loan
+        self.token
             .seat
             .slot_mut(self.lock.lock().shared(), 0)
-            .chan()
+            .chan
             .stamp()
     }
 
     /// Returns how many entries of the channel's log can be undone.
     pub fn pending(&mut self) -> usize
         ensures value { result ≡ self.old.held.logged.pending }
-        ensures lawful { IsLawful self.old.held.logged }
+        ensures lawful { MatchesLog self.old.held.logged }
         ensures same { self.new ≡ self.old }
     {
-        self.loan
+        self.token
             .seat
             .slot_mut(self.lock.lock().shared(), 0)
-            .chan()
+            .chan
             .pending()
     }
 
@@ -112,10 +108,10 @@ impl<K: Log, L: HasLock<K>> LockedLine<K, L> {
         ensures value { result ≡ length self.old.held.logged.log }
         ensures same { self.new ≡ self.old }
     {
-        self.loan
+        self.token
             .seat
             .slot_mut(self.lock.lock().shared(), 0)
-            .chan()
+            .chan
             .log_len()
     }
 
@@ -125,74 +121,25 @@ impl<K: Log, L: HasLock<K>> LockedLine<K, L> {
         ensures value { result ≡ slice_get self.old.held.logged.log place }
         ensures same { self.new ≡ self.old }
     {
-        self.loan
+        self.token
             .seat
             .slot_mut(self.lock.lock().shared(), 0)
-            .chan()
+            .chan
             .entry(place)
     }
 
     /// Returns the cause for which a write or a read must wait, like `Chan::cause_to_wait`.
     pub fn cause_to_wait(&mut self, op: &Op) -> Option<Cause>
-        requires { suits self.old.held.logged.decl.kind op.now ≡ true }
+        requires { supports self.old.held.logged.decl.kind op.now ≡ true }
         ensures cause { (seat : ℕ) → IfSome result (λ cause.
             operate self.old.held.logged.channel seat None op.now ≡ Waits cause) }
         ensures same { self.new ≡ self.old }
     {
-        self.loan
+        self.token
             .seat
             .slot_mut(self.lock.lock().shared(), 0)
             .chan()
             .cause_to_wait(op)
-    }
-
-    /// Commits what can be undone, with the stamp of the tag, which must be later than the channel's, and counts it in
-    /// the seat's share, which has then seen the log.
-    pub fn settle(&mut self, share: &mut SeatShare<K>, tag: Tag)
-        requires of { share.old.line ≡ self.old.line }
-        requires stamped { All (λ entry. entry.tag.stamp ≡ tag.stamp)
-            (last_entries self.old.held.logged.pending self.old.held.logged.log) }
-        requires later { self.old.held.logged.stamp < tag.stamp }
-        ensures settled { self.new.held.logged ≡ settled tag.stamp self.old.held.logged }
-        ensures line { (self.new.line ≡ self.old.line) × (share.new.line ≡ share.old.line) }
-        ensures amount { share.new.amount ≡ share.old.amount + self.old.held.logged.pending }
-        ensures seen { share.new.log ≡ self.old.held.logged.log }
-        ensures made { share.new.made ≡ share.old.made + 1 }
-        ensures marked { HasNewMark self.old.held.logged tag share.old.marks share.new.marks }
-        ensures known { share.new.known ≡ self.new.held.logged }
-    {
-        share.settle(self.loan.seat.slot_mut(self.lock.lock().shared(), 0), tag)
-    }
-
-    /// Commits a write or a read at once, with the stamp of the tag, which must be later than the channel's, and counts
-    /// it in the seat's share, which has then seen the log. Returns the act, or `None` if there is none. Fails only if
-    /// an allocation fails. If there is no act, nothing is changed. It blocks only if the handle permits it, on a
-    /// broadcast channel.
-    #[inline(always)]
-    pub fn commit<R: Append>(
-        &mut self,
-        rt: &R,
-        share: &mut SeatShare<K>,
-        tag: Tag,
-        op: &Op,
-    ) -> Result<Option<Act>, AllocError>
-        requires of { share.old.line ≡ self.old.line }
-        requires clean { self.old.held.logged.pending ≡ 0 }
-        requires later { self.old.held.logged.stamp < tag.stamp }
-        requires suits { suits self.old.held.logged.decl.kind op.now ≡ true }
-        ensures done { IfOk result (λ found. IfSome found (λ act.
-            IsCommittedOp tag op.now act self.old.held.logged self.new.held.logged)) }
-        ensures none { is_move op.now ≡ true → IfOk result (λ found. IfNone found
-            (HasNoAct (operate self.old.held.logged.channel tag.seat None op.now))) }
-        ensures counts { IfOk result (λ found. IfSome found (λ act.
-            CountsOne self.old.held.logged self.new.held.logged tag share.old share.new)) }
-        ensures line { (self.new.line ≡ self.old.line) × (share.new.line ≡ share.old.line) }
-        ensures left { IfOk result (λ found. IfNone found
-            ((self.new.held.logged ≡ self.old.held.logged) × (share.new ≡ share.old))) }
-        ensures unchanged { OnErr result ((self.new.held.logged ≡ self.old.held.logged) × (share.new ≡ share.old)) }
-    {
-        let channel = self.loan.seat.slot_mut(self.lock.lock().shared(), 0);
-        share.commit(rt, channel, tag, op)
     }
 
     /// Returns a snapshot of the channel, in which nothing may be left to undo. The share has then seen the log.
@@ -211,7 +158,7 @@ impl<K: Log, L: HasLock<K>> LockedLine<K, L> {
         ensures unchanged { OnErr result (share.new ≡ share.old) }
         ensures same { self.new ≡ self.old }
     {
-        share.tell_of::<T>(self.loan.seat.slot_mut(self.lock.lock().shared(), 0))
+        share.take_snapshot_of::<T>(self.token.seat.slot_mut(self.lock.lock().shared(), 0))
     }
 
     /// Undoes all entries that can be undone.
@@ -220,7 +167,7 @@ impl<K: Log, L: HasLock<K>> LockedLine<K, L> {
         ensures marks { self.new.marks ≡ self.old.marks }
         ensures line { self.new.line ≡ self.old.line }
     {
-        self.loan
+        self.token
             .seat
             .slot_mut(self.lock.lock().shared(), 0)
             .clean();
@@ -235,7 +182,7 @@ impl<K: Log, L: HasLock<K>> LockedLine<K, L> {
         ensures err { IfErr result (λ stop. stop ≡ Stop.NoMemory) }
         ensures same { self.new ≡ self.old }
     {
-        self.loan
+        self.token
             .seat
             .slot_mut(self.lock.lock().shared(), 0)
             .take_snapshot::<T>()
@@ -244,12 +191,15 @@ impl<K: Log, L: HasLock<K>> LockedLine<K, L> {
     /// Shows what is true of every channel of a line: it is as declared, true to its log, and has these marks. Does
     /// nothing at run time.
     pub fn show(&mut self)
-        ensures lawful { IsLawful self.old.held.logged }
+        ensures lawful { MatchesLog self.old.held.logged }
         ensures decl { self.old.held.logged.decl ≡ self.old.line.decl }
         ensures marks { AreMarks self.old.held.logged self.old.marks }
         ensures same { self.new ≡ self.old }
     {
-        self.loan.seat.slot_mut(self.lock.lock().shared(), 0).show();
+        self.token
+            .seat
+            .slot_mut(self.lock.lock().shared(), 0)
+            .show();
     }
 
     /// Shows that the channel, in which nothing may be left to undo, is as declared and true to its log, which begins
@@ -264,33 +214,33 @@ impl<K: Log, L: HasLock<K>> LockedLine<K, L> {
         ensures share { share.new ≡ share.old }
         ensures same { self.new ≡ self.old }
     {
-        share.show_known(self.loan.seat.slot_mut(self.lock.lock().shared(), 0));
+        share.show_known(self.token.seat.slot_mut(self.lock.lock().shared(), 0));
     }
 
-    /// Returns shares of the line's books without a part, which count nothing. Does nothing at run time.
-    pub fn no_shares(&mut self) -> BookShares
+    /// Returns shares of the line's ledgers without a part, which count nothing. Does nothing at run time.
+    pub fn empty_shares(&mut self) -> LedgerShares
         ensures same { self.new ≡ self.old }
-        ensures books { result.books ≡ self.old.line.books }
+        ensures ledgers { result.ledgers ≡ self.old.line.ledgers }
         ensures none { (result.parts ≡ 0) × (result.amount ≡ 0) × (result.made ≡ 0) }
     {
-        self.loan
+        self.token
             .seat
             .slot_mut(self.lock.lock().shared(), 0)
-            .no_shares()
+            .empty_shares()
     }
 
     /// Shows that the shares of all seats count the whole log, in which nothing may be left to undo, and all marks.
     /// Does nothing at run time.
-    pub fn show_whole(&mut self, shares: &mut BookShares)
-        requires of { shares.old.books ≡ self.old.line.books }
-        requires parts { shares.old.parts ≡ self.old.line.books.seats }
+    pub fn show_whole(&mut self, shares: &mut LedgerShares)
+        requires of { shares.old.ledgers ≡ self.old.line.ledgers }
+        requires parts { shares.old.parts ≡ self.old.line.ledgers.seats }
         requires clean { self.old.held.logged.pending ≡ 0 }
         ensures whole { length self.old.held.logged.log ≡ shares.old.amount }
         ensures all { length self.old.marks ≡ shares.old.made }
         ensures shares { shares.new ≡ shares.old }
         ensures same { self.new ≡ self.old }
     {
-        self.loan
+        self.token
             .seat
             .slot_mut(self.lock.lock().shared(), 0)
             .show_whole(shares);
@@ -303,17 +253,17 @@ impl<K: Log> LockedLine<K> {
         ensures line { result.line ≡ lock.label.value.line }
         ensures clean { result.held.logged.pending ≡ 0 }
     {
-        let mut loan = lock.lock(rt, 0);
-        loan.seat.slot_mut(lock.shared(), 0).clean();
-        LockedLine { lock, loan }
+        let mut token = lock.lock(rt, 0);
+        token.seat.slot_mut(lock.shared(), 0).clean();
+        LockedLine { lock, token }
     }
 
     /// Unlocks the line, and returns its lock.
     pub fn into_lock(self) -> LineLock<K>
         ensures { result.label.value.line ≡ self.line }
     {
-        let LockedLine { lock, loan } = self;
-        lock.unlock(loan);
+        let LockedLine { lock, token } = self;
+        lock.unlock(token);
         lock
     }
 }
@@ -322,28 +272,28 @@ impl LockedLine<FullLog> {
     /// Takes the channel out of its lock, and returns its whole log, in which nothing may be left to undo. The shares
     /// must be those of all seats: they show that the log does not change meanwhile. The lock is free, so this does not
     /// block.
-    pub fn into_log<R: Wait>(self, rt: &R, shares: &mut BookShares) -> Vec<Entry>
-        requires of { shares.old.books ≡ self.line.books }
-        requires parts { shares.old.parts ≡ self.line.books.seats }
+    pub fn into_log<R: Wait>(self, rt: &R, shares: &mut LedgerShares) -> Vec<Entry>
+        requires of { shares.old.ledgers ≡ self.line.ledgers }
+        requires parts { shares.old.parts ≡ self.line.ledgers.seats }
         requires clean { self.held.logged.pending ≡ 0 }
         ensures log { result.items ≡ self.held.logged.log }
         ensures shares { shares.new ≡ shares.old }
     {
-        let LockedLine { lock, mut loan } = self;
-        let channel = loan.seat.slot_mut(lock.shared(), 0);
+        let LockedLine { lock, mut token } = self;
+        let channel = token.seat.slot_mut(lock.shared(), 0);
         channel.show_whole(shares);
         let seen = channel.seen();
-        lock.unlock(loan);
-        let mut channel = Ledgered::out_of(rt, lock);
+        lock.unlock(token);
+        let mut channel = LineChan::from_lock(rt, lock);
         channel.show_whole(shares);
         channel.show_past(&seen);
         channel.into_log()
     }
 }
 
-impl<K: Log, L: HasLock<K>> Drop for LockedLine<K, L> {
+impl<K: Log, L: AsLineLock<K>> Drop for LockedLine<K, L> {
     fn drop(self) {
-        let LockedLine { lock, loan } = self;
-        lock.lock().unlock(loan);
+        let LockedLine { lock, token } = self;
+        lock.lock().unlock(token);
     }
 }

@@ -6,10 +6,10 @@ ghost use Rattle.txc_chan.specs.Logged.{settled};
 ghost use Rattle.txc_table_line.specs.Account.{IsSnapshotOf};
 ghost use Rattle.txc_table_line.specs.Marks.{HasNewMark};
 ghost use Rattle.txc_table_line.specs.Known.{IsKnown};
-ghost use Rattle.txc_table_line.specs.SeatShare.{IsTrue};
+ghost use Rattle.txc_table_line.specs.SeatShare.{IsValidShare};
 
-use crate::book_shares::BookShares;
-use crate::ledgered::Ledgered;
+use crate::ledger_shares::LedgerShares;
+use crate::line_chan::LineChan;
 use crate::line_guard::LineGuard;
 use crate::line_lock::LineLock;
 use crate::mark::Mark;
@@ -23,13 +23,14 @@ use txc_chan::Log;
 
 mod commit;
 
-/// What a seat has of a line: a part of the line's books, the channel when the seat last committed on it or saw it, and
+/// What a seat has of a line: a part of the line's ledgers, the channel when the seat last committed on it or saw it,
+/// and
 /// tokens of its log and of its marks. In a contract it is which line it is, how many entries and marks the seat has
 /// made, and what it has seen of the log and of the marks. It has no bytes.
 #[derive(Drop)]
 pub struct SeatShare<K: Log> {
-    pub(crate) shares: BookShares,
-    known: Snapshot<Ledgered<K>>,
+    pub(crate) shares: LedgerShares,
+    known: Snapshot<LineChan<K>>,
     seen: ListPrefix<Entry>,
     marks: ListPrefix<Mark>,
 }
@@ -42,7 +43,7 @@ impl<K: Log> Model for SeatShare<K> {
     ghost view = { λ share. record {
       line = record {
         decl = share.known.value.line.decl;
-        books = share.shares.books;
+        ledgers = share.shares.ledgers;
         lists = record { log = share.seen.name; marks = share.marks.name };
       };
       amount = share.shares.amount;
@@ -59,8 +60,8 @@ impl<K: Log> Model for SeatShare<K> {
 impl<K: Log> SeatShare<K> {
     /// Makes what a new seat has of a line, of one part that counts nothing. The seat has then seen the channel's log,
     /// in which nothing may be left to undo. Does nothing at run time.
-    pub fn new(shares: BookShares, channel: &mut Ledgered<K>) -> SeatShare<K>
-        requires of { shares.books ≡ channel.old.line.books }
+    pub fn new(shares: LedgerShares, channel: &mut LineChan<K>) -> SeatShare<K>
+        requires of { shares.ledgers ≡ channel.old.line.ledgers }
         requires part { (shares.parts ≡ 1) × (shares.amount ≡ 0) × (shares.made ≡ 0) }
         requires clean { channel.old.held.logged.pending ≡ 0 }
         ensures line { result.line ≡ channel.old.line }
@@ -84,7 +85,7 @@ impl<K: Log> SeatShare<K> {
     /// Shows what is true of every share: the seat knows a channel of the line, whose log begins with what the seat has
     /// seen of it, and it has made at most the greatest number of entries. Does nothing at run time.
     pub fn show(&self)
-        ensures { IsTrue self.now }
+        ensures { IsValidShare self.now }
     {
         // Only for the proof: the read of a field shows the invariant of the type.
         let _ = &self.shares;
@@ -92,7 +93,7 @@ impl<K: Log> SeatShare<K> {
 
     /// Commits what can be undone in the channel of the line, with the stamp of the tag, which must be later than the
     /// channel's, and counts it. The seat has then seen the log.
-    pub fn settle(&mut self, channel: &mut Ledgered<K>, tag: Tag)
+    pub fn settle(&mut self, channel: &mut LineChan<K>, tag: Tag)
         requires of { self.old.line ≡ channel.old.line }
         requires stamped { All (λ entry. entry.tag.stamp ≡ tag.stamp)
             (last_entries channel.old.held.logged.pending channel.old.held.logged.log) }
@@ -109,7 +110,7 @@ impl<K: Log> SeatShare<K> {
         channel.show_marks(&self.marks);
         channel.settle(&mut self.shares, tag);
         channel.show();
-        channel.audit(&mut self.shares);
+        channel.show_bound(&mut self.shares);
         // Only for the proof: the log's length is a `usize`, so what the seat has made is at most `GREATEST_NUMBER`.
         let _few = channel.chan.log_len();
         self.known = Snapshot::of(channel);
@@ -117,9 +118,9 @@ impl<K: Log> SeatShare<K> {
         self.marks = channel.seen_marks();
     }
 
-    /// Returns the shares of the books. Does nothing at run time.
-    pub fn into_shares(self) -> BookShares
-        ensures books { result.books ≡ self.line.books }
+    /// Returns the shares of the ledgers. Does nothing at run time.
+    pub fn into_shares(self) -> LedgerShares
+        ensures ledgers { result.ledgers ≡ self.line.ledgers }
         ensures part { result.parts ≡ 1 }
         ensures amount { result.amount ≡ self.amount }
         ensures made { result.made ≡ self.made }
@@ -130,7 +131,7 @@ impl<K: Log> SeatShare<K> {
     /// Shows that the channel of the line, in which nothing may be left to undo, is as declared and true to its log,
     /// which begins with what the seat has seen of it and has at least the entries that the seat has made; so do the
     /// marks. Does nothing at run time.
-    pub fn show_known(&mut self, channel: &mut Ledgered<K>)
+    pub fn show_known(&mut self, channel: &mut LineChan<K>)
         requires of { self.old.line ≡ channel.old.line }
         requires clean { channel.old.held.logged.pending ≡ 0 }
         ensures known { IsKnown self.old.line.decl self.old.amount channel.old.held.logged }
@@ -140,7 +141,7 @@ impl<K: Log> SeatShare<K> {
         ensures same { channel.new ≡ channel.old }
     {
         channel.show();
-        channel.audit(&mut self.shares);
+        channel.show_bound(&mut self.shares);
         channel.show_past(&self.seen);
         channel.show_marks(&self.marks);
     }
@@ -174,9 +175,9 @@ impl<K: Log> SeatShare<K> {
 
     /// Returns a snapshot of the channel, in which nothing may be left to undo. The seat has then seen the log. Returns
     /// `NoMemory` if an allocation fails, and no other error; the share is then unchanged.
-    pub(crate) fn tell_of<T: SnapshotKind<K>>(
+    pub(crate) fn take_snapshot_of<T: SnapshotKind<K>>(
         &mut self,
-        channel: &mut Ledgered<K>,
+        channel: &mut LineChan<K>,
     ) -> Result<T::Output, Stop>
         requires of { self.old.line ≡ channel.old.line }
         requires clean { channel.old.held.logged.pending ≡ 0 }
@@ -195,7 +196,7 @@ impl<K: Log> SeatShare<K> {
     }
 
     /// The seat has now seen the channel's log, in which nothing may be left to undo. Does nothing at run time.
-    fn see(&mut self, channel: &mut Ledgered<K>)
+    fn see(&mut self, channel: &mut LineChan<K>)
         requires of { self.old.line ≡ channel.old.line }
         requires clean { channel.old.held.logged.pending ≡ 0 }
         requires long { self.old.amount ≤ length channel.old.held.logged.log }

@@ -12,11 +12,12 @@ use Rattle.txc_chan.specs.ChanView.{ChanView}
 use Rattle.txc_table_line.specs.Account.{IsAccount}
 use Rattle.txc_table_line.specs.Line.{decl_at}
 use Rattle.txc_txn.specs.Plain.{missing}
-use Rattle.txc_table_line.specs.Ledgered.{LedgeredView}
+use Rattle.txc_table_line.specs.LineChan.{LineChanView}
 use Rattle.txc_table_lines.specs.Locked.{channel_at, line_decls_of, helds_of}
 use Rattle.txc_table_lines.proofs.Locking.{held_at}
 use Rattle.txc_table_lines.proofs.Mapping.{map_push}
-use Rattle.txc_table_lines.specs.Accounted.{AreAccounts, AreBriefs, IsAccountAt, IsSnapshotAt, summary_in, with_log_at}
+use Rattle.txc_table_lines.specs.Accounted.{AreAccounts, AreSummaries, IsAccountAt, IsSnapshotAt, summary_in}
+use Rattle.txc_table_lines.specs.Accounted.{with_log_at}
 use Rattle.txc_table_lines.specs.Accounted.{with_logs}
 use Rattle.txc_table_line.proofs.Listing.{get_push}
 
@@ -38,12 +39,12 @@ accounts_more lines helds n accounts accounts' account are push is =
     })
 
 -- what is declared at a line
-decl_of : (now : List LedgeredView) (n : ℕ) → decl_at (line_decls_of now) n ≡ (channel_at now n).line.decl
+decl_of : (now : List LineChanView) (n : ℕ) → decl_at (line_decls_of now) n ≡ (channel_at now n).line.decl
 decl_of [] n = refl
 decl_of (c ∷ cs) zero = refl
 decl_of (c ∷ cs) (suc n) = decl_of cs n
 
-is_snapshot_at : {T : Type 0} (of : ChanView → T) (now : List LedgeredView) (chan : ℕ) (snapshot : T)
+is_snapshot_at : {T : Type 0} (of : ChanView → T) (now : List LineChanView) (chan : ℕ) (snapshot : T)
     → IsAccount (channel_at now chan).line.decl (length (channel_at now chan).held.logged.log)
     (account_of (channel_at now chan).held) → snapshot ≡ of (channel_at now chan).held
     → IsSnapshotAt of (line_decls_of now) (helds_of now) chan snapshot
@@ -56,15 +57,15 @@ is_snapshot_at of now chan snapshot account its = (
 )
 
 -- a snapshot of a line is one of the channel with its number
-pub snapshot_at : {T : Type 0} (of : ChanView → T) (now : List LedgeredView) (chan : ℕ) (channel : LedgeredView)
+pub snapshot_at : {T : Type 0} (of : ChanView → T) (now : List LineChanView) (chan : ℕ) (channel : LineChanView)
     (result : Result T Stop) → channel_at now chan ≡ channel
     → IsAccount channel.line.decl (length channel.held.logged.log) (account_of channel.held)
     → IfOk result (λ snapshot. snapshot ≡ of channel.held)
     → IfOk result (IsSnapshotAt of (line_decls_of now) (helds_of now) chan)
 snapshot_at of now chan channel (Ok snapshot) is account its =
     is_snapshot_at of now chan snapshot
-    (subst (λ (c : LedgeredView). IsAccount c.line.decl (length c.held.logged.log) (account_of c.held)) (sym is)
-    account) (its ∙ ap (λ (c : LedgeredView). of c.held) (sym is))
+    (subst (λ (c : LineChanView). IsAccount c.line.decl (length c.held.logged.log) (account_of c.held)) (sym is)
+    account) (its ∙ ap (λ (c : LineChanView). of c.held) (sym is))
 snapshot_at of now chan channel (Err stop) is account its = tt
 
 -- no account is one of no channel
@@ -137,15 +138,15 @@ log_past (account ∷ accounts) (suc n) log past =
 
 -- the first 0 channels have no summaries
 pub briefs_none : (lines : List Decl) (helds : List ChanView) (summaries : List Summary) → summaries ≡ []
-    → AreBriefs lines helds 0 summaries
-briefs_none lines helds summaries is = subst (AreBriefs lines helds 0) (sym is)
+    → AreSummaries lines helds 0 summaries
+briefs_none lines helds summaries is = subst (AreSummaries lines helds 0) (sym is)
     (record { accounts = []; are = none_are lines helds; summarized = refl })
 
 pub briefs_more : (lines : List Decl) (helds : List ChanView) (n : ℕ) (summaries briefs' : List Summary)
     (summary : Summary)
-    → AreBriefs lines helds n summaries
+    → AreSummaries lines helds n summaries
     → briefs' ≡ summaries ++ summary ∷ [] → IsSnapshotAt summary_of lines helds n summary
-    → AreBriefs lines helds (n + 1) briefs'
+    → AreSummaries lines helds (n + 1) briefs'
 briefs_more lines helds n summaries briefs' summary are push is =
     let account : Account = account_of (slice_index_or helds n missing) in
     let its : summary ≡ summary_in account = is.1 in

@@ -6,21 +6,22 @@ use Rattle.txc_chan.specs.ChanView.{ChanView}
 use Rattle.txc_table_line.specs.Marks.{AreMarks}
 use Rattle.txc_table_line.specs.declared.mark.Mark.{Mark}
 use Rattle.txc_txn.specs.Plain.{missing}
-use Rattle.txc_table_line.specs.Ledgered.{LedgeredView, no_channel}
-use Rattle.txc_table_line.specs.Line.{Books, LineId, BookSharesView}
+use Rattle.txc_table_line.specs.LineChan.{LineChanView, no_channel}
+use Rattle.txc_table_line.specs.Line.{Books, LineId, LedgerSharesView}
 use Rattle.txc_table_line.specs.SeatShare.{SeatShareView}
 use Rattle.txc_table_lines.specs.Lines.{line_ids, share_at}
 use Rattle.txc_table_lines.specs.Locked.{AllMarked, AreClean, HaveParts, IsLineCounted, IsLineSeen, IsLineThere}
 use Rattle.txc_table_lines.specs.Locked.{LogsCount}
-use Rattle.txc_table_lines.specs.Locked.{MarksCount, amounts_in, books_in, books_of, channel_at, collected_at, helds_of}
+use Rattle.txc_table_lines.specs.Locked.{MarksCount, amounts_in, ledgers_in, ledgers_of, channel_at, collected_at}
+use Rattle.txc_table_lines.specs.Locked.{helds_of}
 use Rattle.txc_table_lines.specs.Locked.{lines_of, made_in, line_marks_of, no_part}
 use Rattle.txc_table_lines.proofs.Sharing.{line_at as line_of_share, map_long}
 
 -- no line is missing
-pub never : (items slice : List (Option LedgeredView)) (at : ℕ) (d : Option LedgeredView) → All IsLineThere items
+pub never : (items slice : List (Option LineChanView)) (at : ℕ) (d : Option LineChanView) → All IsLineThere items
     → slice ≡ items → at < length items → slice_index_or slice at d ≡ None → ⊥
 never items slice at d all same below none = subst IsLineThere none
-    (subst (λ (os : List (Option LedgeredView)). IsLineThere (slice_index_or os at d)) (sym same) (all at d below))
+    (subst (λ (os : List (Option LineChanView)). IsLineThere (slice_index_or os at d)) (sym same) (all at d below))
 
 below_or : (k m : ℕ) → k < suc m → (k < m) ⊎ (k ≡ m)
 below_or zero zero lt = inr refl
@@ -39,7 +40,7 @@ up_to P at before is n below = elim (below_or n at (omega (arith, below))) [
 ]
 
 -- nothing in the channel with a number can be undone
-pub clean_at : (now : List LedgeredView) (n : ℕ) → AreClean (helds_of now) → n < length now
+pub clean_at : (now : List LineChanView) (n : ℕ) → AreClean (helds_of now) → n < length now
     → (channel_at now n).held.logged.pending ≡ 0
 clean_at [] n are below = absurd (omega (arith, below))
 clean_at (c ∷ cs) zero are below = are 0 missing (omega arith)
@@ -47,56 +48,57 @@ clean_at (c ∷ cs) (suc n) are below =
     clean_at cs n (λ k d lt. are (suc k) d (omega (arith, lt))) (omega (arith, below))
 
 -- .. if that is so for each number, it is so for all
-pub clean_all : (now : List LedgeredView) → ((n : ℕ) → n < length now → (channel_at now n).held.logged.pending ≡ 0)
+pub clean_all : (now : List LineChanView) → ((n : ℕ) → n < length now → (channel_at now n).held.logged.pending ≡ 0)
     → AreClean (helds_of now)
 clean_all [] each k d below = absurd (omega (arith, below))
 clean_all (c ∷ cs) each zero d below = each 0 (omega arith)
 clean_all (c ∷ cs) each (suc k) d below =
     clean_all cs (λ n lt. each (suc n) (omega (arith, lt))) k d (omega (arith, below))
 
-line_of_channel : (now : List LedgeredView) (n : ℕ)
+line_of_channel : (now : List LineChanView) (n : ℕ)
     → slice_index_or (lines_of now) n no_channel.line ≡ (channel_at now n).line
 line_of_channel [] n = refl
 line_of_channel (c ∷ cs) zero = refl
 line_of_channel (c ∷ cs) (suc n) = line_of_channel cs n
 
 -- a share and a channel with the same number are of one line
-pub one_line : (shares : List SeatShareView) (now : List LedgeredView) (n : ℕ) → line_ids shares ≡ lines_of now
+pub one_line : (shares : List SeatShareView) (now : List LineChanView) (n : ℕ) → line_ids shares ≡ lines_of now
     → (share_at shares n).line ≡ (channel_at now n).line
 one_line shares now n of =
     sym (line_of_share shares n) ∙ ap (λ (ls : List LineId). slice_index_or ls n no_channel.line) of
     ∙ line_of_channel now n
 
 -- there are as many shares as channels
-pub as_many : (shares : List SeatShareView) (now : List LedgeredView) → line_ids shares ≡ lines_of now
+pub as_many : (shares : List SeatShareView) (now : List LineChanView) → line_ids shares ≡ lines_of now
     → length shares ≡ length now
 as_many shares now of =
-    sym (map_long (λ (s : SeatShareView). s.line) shares) ∙ ap length of ∙ map_long (λ (c : LedgeredView). c.line) now
+    sym (map_long (λ (s : SeatShareView). s.line) shares) ∙ ap length of ∙ map_long (λ (c : LineChanView). c.line) now
 
 -- .. also of collected shares
-pub collected_many : (shares : List BookSharesView) (lines : List LineId) → books_in shares ≡ books_of lines
+pub collected_many : (shares : List LedgerSharesView) (lines : List LineId) → ledgers_in shares ≡ ledgers_of lines
     → length shares ≡ length lines
 collected_many shares lines of =
-    sym (map_long (λ (s : BookSharesView). s.books) shares) ∙ ap length of ∙ map_long (λ (l : LineId). l.books) lines
+    sym (map_long (λ (s : LedgerSharesView). s.ledgers) shares) ∙ ap length of
+    ∙ map_long (λ (l : LineId). l.ledgers) lines
 
-books_at : (shares : List BookSharesView) (n : ℕ)
-    → slice_index_or (books_in shares) n no_channel.line.books ≡ (collected_at shares n).books
-books_at [] n = refl
-books_at (s ∷ shares) zero = refl
-books_at (s ∷ shares) (suc n) = books_at shares n
+ledgers_at : (shares : List LedgerSharesView) (n : ℕ)
+    → slice_index_or (ledgers_in shares) n no_channel.line.ledgers ≡ (collected_at shares n).ledgers
+ledgers_at [] n = refl
+ledgers_at (s ∷ shares) zero = refl
+ledgers_at (s ∷ shares) (suc n) = ledgers_at shares n
 
-books_of_channel : (now : List LedgeredView) (n : ℕ)
-    → slice_index_or (books_of (lines_of now)) n no_channel.line.books ≡ (channel_at now n).line.books
-books_of_channel [] n = refl
-books_of_channel (c ∷ cs) zero = refl
-books_of_channel (c ∷ cs) (suc n) = books_of_channel cs n
+ledgers_of_channel : (now : List LineChanView) (n : ℕ)
+    → slice_index_or (ledgers_of (lines_of now)) n no_channel.line.ledgers ≡ (channel_at now n).line.ledgers
+ledgers_of_channel [] n = refl
+ledgers_of_channel (c ∷ cs) zero = refl
+ledgers_of_channel (c ∷ cs) (suc n) = ledgers_of_channel cs n
 
--- collected shares and a channel with the same number are of the same books
-pub one_book : (shares : List BookSharesView) (now : List LedgeredView) (n : ℕ)
-    → books_in shares ≡ books_of (lines_of now) → (collected_at shares n).books ≡ (channel_at now n).line.books
-one_book shares now n of =
-    sym (books_at shares n) ∙ ap (λ (bs : List Books). slice_index_or bs n no_channel.line.books) of
-    ∙ books_of_channel now n
+-- collected shares and a channel with the same number are of the same ledgers
+pub one_ledger : (shares : List LedgerSharesView) (now : List LineChanView) (n : ℕ)
+    → ledgers_in shares ≡ ledgers_of (lines_of now) → (collected_at shares n).ledgers ≡ (channel_at now n).line.ledgers
+one_ledger shares now n of =
+    sym (ledgers_at shares n) ∙ ap (λ (bs : List Books). slice_index_or bs n no_channel.line.ledgers) of
+    ∙ ledgers_of_channel now n
 
 -- what is true at each place of two lists is true of what two functions make of them
 pub zip_maps : {X Y A B : Type 0} (R : A → B → Type 0) (f : X → A) (g : Y → B) (xs : List X) (ys : List Y) (d : X)
@@ -110,19 +112,19 @@ zip_maps R f g (x ∷ xs) (y ∷ ys) d e long each =
     (each 0 (omega arith), zip_maps R f g xs ys d e (omega (arith, long)) (λ n lt. each (suc n) (omega (arith, lt))))
 
 -- what is seen of a channel, told of an equal share and channel
-pub seen_same : (share share' : SeatShareView) (channel channel' : LedgeredView) → share ≡ share' → channel' ≡ channel
+pub seen_same : (share share' : SeatShareView) (channel channel' : LineChanView) → share ≡ share' → channel' ≡ channel
     → IsLineSeen share channel → IsLineSeen share' channel'
 seen_same share share' channel channel' same is seen =
     subst (λ (s : SeatShareView). IsLineSeen s channel') same (subst (IsLineSeen share) (sym is) seen)
 
 -- channels of the same lines are as many
-pub same_many : (now others : List LedgeredView) → lines_of now ≡ lines_of others → length now ≡ length others
+pub same_many : (now others : List LineChanView) → lines_of now ≡ lines_of others → length now ≡ length others
 same_many now others same =
-    sym (map_long (λ (c : LedgeredView). c.line) now) ∙ ap length same
-    ∙ map_long (λ (c : LedgeredView). c.line) others
+    sym (map_long (λ (c : LineChanView). c.line) now) ∙ ap length same
+    ∙ map_long (λ (c : LineChanView). c.line) others
 
 -- the marks are those of the channels if those of each channel are
-pub all_marked : (now : List LedgeredView) (at : ℕ) → length now ≤ at
+pub all_marked : (now : List LineChanView) (at : ℕ) → length now ≤ at
     → ((n : ℕ) → n < at → AreMarks (channel_at now n).held.logged (channel_at now n).marks)
     → AllMarked (helds_of now) (line_marks_of now)
 all_marked now at all each = zip_maps (λ (h : ChanView) (ms : List Mark). AreMarks h.logged ms) (λ c. c.held)
@@ -130,38 +132,38 @@ all_marked now at all each = zip_maps (λ (h : ChanView) (ms : List Mark). AreMa
     now now no_channel no_channel refl (λ n below. each n (omega (arith, below, all)))
 
 -- the shares count all logs and all marks if they count those of each channel
-pub logs_counted : (now : List LedgeredView) (shares : List BookSharesView) (at : ℕ) → length now ≤ at
+pub logs_counted : (now : List LineChanView) (shares : List LedgerSharesView) (at : ℕ) → length now ≤ at
     → length now ≡ length shares → ((n : ℕ) → n < at → IsLineCounted (channel_at now n) (collected_at shares n))
     → LogsCount (helds_of now) (amounts_in shares)
 logs_counted now shares at all many each = zip_maps (λ (h : ChanView) amount. length h.logged.log ≡ amount)
     (λ c. c.held)
-    (λ s. s.amount) now shares no_channel (no_part no_channel.line.books) many
+    (λ s. s.amount) now shares no_channel (no_part no_channel.line.ledgers) many
     (λ n below. (each n (omega (arith, below, all))).log)
 
-pub marks_counted : (now : List LedgeredView) (shares : List BookSharesView) (at : ℕ) → length now ≤ at
+pub marks_counted : (now : List LineChanView) (shares : List LedgerSharesView) (at : ℕ) → length now ≤ at
     → length now ≡ length shares → ((n : ℕ) → n < at → IsLineCounted (channel_at now n) (collected_at shares n))
     → MarksCount (line_marks_of now) (made_in shares)
 marks_counted now shares at all many each = zip_maps (λ (ms : List Mark) amount. length ms ≡ amount) (λ c. c.marks)
-    (λ s. s.made) now shares no_channel (no_part no_channel.line.books) many
+    (λ s. s.made) now shares no_channel (no_part no_channel.line.ledgers) many
     (λ n below. (each n (omega (arith, below, all))).marks)
 
 -- shares without a part count nothing
-pub books_nothing : (now : List LedgeredView)
-    → books_in (map (λ channel. no_part channel.line.books) now) ≡ books_of (lines_of now)
-books_nothing [] = refl
-books_nothing (c ∷ cs) = ap (λ rest. c.line.books ∷ rest) (books_nothing cs)
+pub ledgers_nothing : (now : List LineChanView)
+    → ledgers_in (map (λ channel. no_part channel.line.ledgers) now) ≡ ledgers_of (lines_of now)
+ledgers_nothing [] = refl
+ledgers_nothing (c ∷ cs) = ap (λ rest. c.line.ledgers ∷ rest) (ledgers_nothing cs)
 
-pub parts_nothing : (now : List LedgeredView) → HaveParts 0 (map (λ channel. no_part channel.line.books) now)
+pub parts_nothing : (now : List LineChanView) → HaveParts 0 (map (λ channel. no_part channel.line.ledgers) now)
 parts_nothing [] k d below = absurd (omega (arith, below))
 parts_nothing (c ∷ cs) zero d below = refl
 parts_nothing (c ∷ cs) (suc k) d below = parts_nothing cs k d (omega (arith, below))
 
-pub amounts_nothing : (now : List LedgeredView)
-    → amounts_in (map (λ channel. no_part channel.line.books) now) ≡ replicate (length now) 0
+pub amounts_nothing : (now : List LineChanView)
+    → amounts_in (map (λ channel. no_part channel.line.ledgers) now) ≡ replicate (length now) 0
 amounts_nothing [] = refl
 amounts_nothing (c ∷ cs) = ap (λ rest. 0 ∷ rest) (amounts_nothing cs)
 
-pub made_nothing : (now : List LedgeredView)
-    → made_in (map (λ channel. no_part channel.line.books) now) ≡ replicate (length now) 0
+pub made_nothing : (now : List LineChanView)
+    → made_in (map (λ channel. no_part channel.line.ledgers) now) ≡ replicate (length now) 0
 made_nothing [] = refl
 made_nothing (c ∷ cs) = ap (λ rest. 0 ∷ rest) (made_nothing cs)

@@ -17,17 +17,17 @@ use Rattle.txc_table_line.specs.declared.mark.Mark.{Mark}
 use Rattle.txc_txn.specs.declared.deed.Deed.{Deed}
 use Rattle.txc_txn.specs.declared.receipt.Receipt.{Receipt}
 use Rattle.txc_txn.specs.Growth.{AllGrow, Grows}
-use Rattle.txc_txn.specs.InLog.{ReceiptStands}
+use Rattle.txc_txn.specs.InLog.{ReceiptIsInLog}
 use Rattle.txc_txn.specs.Run.{count_deeds}
 use Rattle.txc_txn.proofs.Growing.{length_entries}
 use Rattle.txc_txn.proofs.Placing.{logs_in}
 use Rattle.txc_txn_check.proofs.Containing.{contains_later, tells}
 use Rattle.txc_txn_check.specs.Limits.{IsRising}
-use Rattle.txc_chan.specs.Logged.{IsLawful, Logged, settled}
+use Rattle.txc_chan.specs.Logged.{MatchesLog, Logged, settled}
 use Rattle.txc_txn.specs.Maps.{Map, settle_all}
 use Rattle.txc_txn.proofs.Settling.{settle_inside, settle_others}
 use Rattle.txc_base.specs.declared.tag.Tag.{Tag}
-use Rattle.txc_table_line.specs.Ledgered.{LedgeredView, no_channel}
+use Rattle.txc_table_line.specs.LineChan.{LineChanView, no_channel}
 use Rattle.txc_table_line.specs.SeatShare.{SeatShareView}
 use Rattle.txc_table_lines.specs.Committed.{AreCommitted, AreSettled, HasNoneOutside, HasItsMark, IsSettled}
 use Rattle.txc_table_lines.specs.Guards.{IsReady, chan_at, known_of}
@@ -36,7 +36,7 @@ use Rattle.txc_table_lines.proofs.Sharing.{begins_itself, begins_more}
 use Rattle.txc_table_lines.proofs.Sweeping.{Swept, apart}
 
 -- the channel at a place is that with the number there
-chan_place : (numbers : List ℕ) (channels : List LedgeredView) (known : Map) (at : ℕ)
+chan_place : (numbers : List ℕ) (channels : List LineChanView) (known : Map) (at : ℕ)
     → length channels ≡ length numbers → at < length numbers
     → ((k : ℕ) → k < at → slice_index_or numbers k 0 ≢ slice_index_or numbers at 0)
     → chan_at numbers channels known (slice_index_or numbers at 0) ≡ (slice_index_or channels at no_channel).held.logged
@@ -57,7 +57,7 @@ chan_place (n ∷ numbers) (c ∷ channels) known (suc at) long below before =
     ]
 
 -- a channel that is not declared is the known one
-chan_outside : (numbers : List ℕ) (channels : List LedgeredView) (known : Map) (n : ℕ) → ¬ Contains numbers n
+chan_outside : (numbers : List ℕ) (channels : List LineChanView) (known : Map) (n : ℕ) → ¬ Contains numbers n
     → chan_at numbers channels known n ≡ known n
 chan_outside [] channels known n none = refl
 chan_outside (m ∷ numbers) [] known n none = refl
@@ -83,7 +83,7 @@ all_settled declared stamp before after inside outside = λ i n. at n i
           | inr none ↦ outside n none ∙ sym (settle_others before stamp declared n none)
         ]
 
-module _ (declared : List ℕ) (channels channels' : List LedgeredView) (known : List SeatShareView)
+module _ (declared : List ℕ) (channels channels' : List LineChanView) (known : List SeatShareView)
     (before after : List SeatShareView) (tag : Tag) (rise : IsRising declared)
     (long : length channels ≡ length declared)
     (swept : Swept (λ x y x' y'. IsSettled tag x.held.logged y x'.held.logged y') declared no_channel no_share channels
@@ -120,7 +120,7 @@ module _ (declared : List ℕ) (channels channels' : List LedgeredView) (known :
       ∙ sym (chan_outside declared channels (known_of known) n none))
 
 -- a declared channel can be committed at its place
-pub ready_at : (stamp : ℕ) (declared : List ℕ) (channels : List LedgeredView) (known : List SeatShareView) (at : ℕ)
+pub ready_at : (stamp : ℕ) (declared : List ℕ) (channels : List LineChanView) (known : List SeatShareView) (at : ℕ)
     → IsRising declared → length channels ≡ length declared → at < length declared
     → ((n : ℕ) → Contains declared n → IsReady stamp (chan_at declared channels (known_of known) n))
     → IsReady stamp (slice_index_or channels at no_channel).held.logged
@@ -163,7 +163,7 @@ pub is_marked : (tag : Tag) (found after left : Logged) (old new : List Mark) �
     → found.pending ≡ 0 → left ≡ settled tag.stamp after → HasNewMark after tag old new
     → HasItsMark found left tag old new
 is_marked tag found after left old new grows clean same is = record {
-  lawful = subst (λ (l : Logged). IsLawful l) (sym same) is.lawful;
+  lawful = subst (λ (l : Logged). MatchesLog l) (sym same) is.lawful;
   before = is.before;
   rise = is.are.rise;
   stamp = is.are.stamp ∙ grows.stamp;
@@ -226,9 +226,9 @@ counted_there (d ∷ ds) (suc i) deed here = omega (arith, counted_there ds i de
 
 -- the acts of a receipt are in what was seen of the logs, if it has none in channels that are not declared
 pub acts_seen : (declared : List ℕ) (receipt : Receipt) (mid final : Map) (before after : List SeatShareView)
-    → ReceiptStands (logs_in mid) receipt → HasNoneOutside declared receipt
+    → ReceiptIsInLog (logs_in mid) receipt → HasNoneOutside declared receipt
     → ((n : ℕ) → AreSettled declared receipt.tag mid before final after n)
-    → ReceiptStands (λ n. (share_at after n).log) receipt
+    → ReceiptIsInLog (λ n. (share_at after n).log) receipt
 acts_seen declared receipt mid final before after stand none settled i deed here =
     elim (tells declared deed.chan) [
       | inl is ↦

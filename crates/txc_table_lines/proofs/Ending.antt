@@ -2,7 +2,7 @@
 use Rattle.std.proofs.Common.{◌≡◌, ◌∙◌, refl, sym, ap, ℕ, ◌<◌, Option, Some, List, [], ◌∷◌, ◌++◌, length, map, arith}
 use Rattle.txc_base.specs.declared.entry.Entry.{Entry}
 use Rattle.txc_chan.specs.declared.account.Account.{Account}
-use Rattle.txc_table_line.specs.Ledgered.{LedgeredView, no_channel}
+use Rattle.txc_table_line.specs.LineChan.{LineChanView, no_channel}
 use Rattle.txc_table_lines.specs.Accounted.{with_log_at, with_logs}
 use Rattle.txc_table_lines.specs.Guards.{channel_in}
 use Rattle.txc_table_lines.specs.Locked.{channel_at, helds_of}
@@ -12,8 +12,8 @@ use Rattle.txc_table_lines.proofs.Mapping.{map_push}
 use Rattle.txc_table_lines.proofs.Sharing.{map_at, map_long}
 
 -- the next line is there
-pub next_there : (before rest rest' : List (Option LedgeredView)) (now : List LedgeredView)
-    (line : Option LedgeredView) (n : ℕ) → map channel_in (before ++ rest) ≡ now → rest ≡ line ∷ rest'
+pub next_there : (before rest rest' : List (Option LineChanView)) (now : List LineChanView)
+    (line : Option LineChanView) (n : ℕ) → map channel_in (before ++ rest) ≡ now → rest ≡ line ∷ rest'
     → n ≡ length before → n < length now
 next_there before rest rest' now line n all is at = omega (
   arith,
@@ -23,18 +23,18 @@ next_there before rest rest' now line n all is at = omega (
 )
 
 -- .. and is that of the channel with its number
-pub channel_next : (before rest rest' : List (Option LedgeredView)) (now : List LedgeredView)
-    (line : Option LedgeredView) (n : ℕ) (channel : LedgeredView) → map channel_in (before ++ rest) ≡ now
+pub channel_next : (before rest rest' : List (Option LineChanView)) (now : List LineChanView)
+    (line : Option LineChanView) (n : ℕ) (channel : LineChanView) → map channel_in (before ++ rest) ≡ now
     → rest ≡ line ∷ rest' → n ≡ length before → line ≡ Some channel → channel_at now n ≡ channel
 channel_next before rest rest' now line n channel all is at some =
-    sym (ap (λ (cs : List LedgeredView). channel_at cs n) all)
+    sym (ap (λ (cs : List LineChanView). channel_at cs n) all)
     ∙ map_at channel_in (before ++ rest) n line no_channel
     (next_below before rest rest' (before ++ rest) line n refl is at)
     ∙ ap channel_in (next_is before rest rest' (before ++ rest) line n line refl is at ∙ some)
 
 -- the next account gets the log of the channel
-pub account_more : (accounts : List Account) (before : List (Option LedgeredView)) (line : Option LedgeredView)
-    (channel : LedgeredView) (n : ℕ) (given : List Account) (log : List Entry)
+pub account_more : (accounts : List Account) (before : List (Option LineChanView)) (line : Option LineChanView)
+    (channel : LineChanView) (n : ℕ) (given : List Account) (log : List Entry)
     → given ≡ with_logs accounts (helds_of (map channel_in before)) → n ≡ length before → line ≡ Some channel
     → log ≡ channel.held.logged.log
     → with_log_at given n log ≡ with_logs accounts (helds_of (map channel_in (before ++ line ∷ [])))
@@ -44,9 +44,9 @@ account_more accounts before line channel n given log are at some its =
     ∙ with_log_more accounts (helds_of (map channel_in before)) n channel.held (omega (
       arith,
       at,
-      map_long (λ (c : LedgeredView). c.held) (map channel_in before),
+      map_long (λ (c : LineChanView). c.held) (map channel_in before),
       map_long channel_in before,
     ))
     ∙ ap (with_logs accounts) (sym (ap helds_of (map_push channel_in before line)
-    ∙ map_push (λ (c : LedgeredView). c.held) (map channel_in before) (channel_in line)
-    ∙ ap (λ (o : Option LedgeredView). helds_of (map channel_in before) ++ (channel_in o).held ∷ []) some))
+    ∙ map_push (λ (c : LineChanView). c.held) (map channel_in before) (channel_in line)
+    ∙ ap (λ (o : Option LineChanView). helds_of (map channel_in before) ++ (channel_in o).held ∷ []) some))

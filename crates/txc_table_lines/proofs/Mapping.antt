@@ -4,7 +4,7 @@ use Rattle.std.proofs.Common.{length, map}
 use Rattle.std.proofs.Common.{take, drop, replicate, slice_index_or, slice_set, arith}
 use Rattle.txc_chan.specs.declared.decl.Decl.{Decl}
 use Rattle.txc_chan.specs.Logged.{Logged, opened}
-use Rattle.txc_table_line.specs.Ledgered.{LedgeredView}
+use Rattle.txc_table_line.specs.LineChan.{LineChanView}
 use Rattle.txc_table_line.specs.Line.{LineId}
 use Rattle.txc_table_line.specs.SeatShare.{SeatShareView}
 use Rattle.txc_table_lines.specs.Lines.{fresh_share}
@@ -43,7 +43,7 @@ unfolding mapped
 mapped_none f xs = refl
 
 -- what a new seat has of a new channel
-pub fresh_share_is : (share : SeatShareView) (channel : LedgeredView) → channel.held.logged ≡ opened channel.line.decl
+pub fresh_share_is : (share : SeatShareView) (channel : LineChanView) → channel.held.logged ≡ opened channel.line.decl
     → channel.marks ≡ [] → share.line ≡ channel.line → (share.amount ≡ 0) × (share.made ≡ 0)
     → share.log ≡ channel.held.logged.log → share.marks ≡ channel.marks → share.known ≡ channel.held.logged
     → share ≡ fresh_share channel.line

@@ -11,7 +11,7 @@ use Rattle.txc_base.specs.declared.tag.Tag.{Tag}
 use Rattle.txc_base.specs.Op.{chan_of}
 use Rattle.txc_base.specs.Operation.{HasActs, Waits, operate}
 use Rattle.txc_base.specs.declared.cause.Cause.{Cause}
-use Rattle.txc_chan.specs.Committed.{HasNoAct, IsCommittedOp, is_move, reply_to}
+use Rattle.txc_chan.specs.Committed.{HasNoAct, IsCommittedOp, is_read_or_write, reply_to}
 use Rattle.txc_chan.specs.Logged.{Logged}
 use Rattle.txc_chan.specs.Reserved.{one_if}
 use Rattle.txc_txn_check.proofs.Containing.{contains_none, contains_tail}
@@ -31,10 +31,10 @@ use Rattle.txc_txn.specs.OneOperation.{ending_of_one}
 use Rattle.txc_table_line.specs.Commit.{CountsOne, HasCommitMark}
 use Rattle.txc_table_line.specs.SeatShare.{SeatShareView}
 use Rattle.txc_table_lines.specs.Committed.{CountsCommit, HasItsMark}
-use Rattle.txc_table_line.specs.Ledgered.{LedgeredView}
+use Rattle.txc_table_line.specs.LineChan.{LineChanView}
 use Rattle.txc_table_lines.specs.Guards as guards
 use Rattle.txc_table_lines.specs.Guards.{known_of}
-use Rattle.txc_table_lines.specs.Lines.{AreTrue, share_at}
+use Rattle.txc_table_lines.specs.Lines.{AreValidShares, share_at}
 use Rattle.txc_table_lines.specs.OneOperation.{AreKnown, IsCommittedOne, IsNotImmediate, MustRetryOne}
 use Rattle.txc_table_lines.proofs.Sharing.{begins_more, grew_set}
 use Rattle.txc_table_lines.proofs.Taking.{known_since}
@@ -74,12 +74,12 @@ pub record IsFound (share : SeatShareView) (l : Logged) : Type 0 where
   pub known : IsKnown share.line.decl share.amount l
   pub since : IsPrefix share.log l.log
 
-pub found_logged : (share : SeatShareView) (channel : LedgeredView) → guards.IsFound share channel
+pub found_logged : (share : SeatShareView) (channel : LineChanView) → guards.IsFound share channel
     → IsFound share channel.held.logged
 found_logged share channel is = record { known = is.known; since = is.since }
 
 -- the channels of all lines, if the one with this number was found so
-pub found_with : (shares : List SeatShareView) (n : ℕ) (l : Logged) → AreTrue shares
+pub found_with : (shares : List SeatShareView) (n : ℕ) (l : Logged) → AreValidShares shares
     → IsKnown (share_at shares n).line.decl (share_at shares n).amount l → IsPrefix (share_at shares n).log l.log
     → AreKnown shares (put_at (known_of shares) n l)
 found_with shares n l are known since = record {
@@ -154,7 +154,7 @@ stands_one log tag act n (suc i) deed here logs is = cc
 -- the transaction of an operation that was committed at once was committed
 pub committed_one : (tag kept : Tag) (op : Op) (act : Act) (l l' : Logged) (shares : List SeatShareView)
     (new : SeatShareView)
-    → AreTrue shares → HasCommittedOne tag kept op act l l' shares new
+    → AreValidShares shares → HasCommittedOne tag kept op act l l' shares new
     → IsCommittedOne tag op shares (slice_set shares (chan_of op) new) (record {
       tag = kept;
       replies = reply_to act ∷ [];
@@ -230,7 +230,7 @@ committed_one tag kept op act l l' shares new are has =
     rises i (suc j) one other lt here there same = cc
 
 -- if the operation waits, its transaction must be retried
-pub waits_one : (tag : Tag) (op : Op) (l : Logged) (shares : List SeatShareView) (cause : Cause) → AreTrue shares
+pub waits_one : (tag : Tag) (op : Op) (l : Logged) (shares : List SeatShareView) (cause : Cause) → AreValidShares shares
     → IsFound (share_at shares (chan_of op)) l
     → (is_worn tag.serial || is_worn (max tag.stamp l.stamp)) ≡ false
     → operate l.channel tag.seat None op ≡ Waits cause → MustRetryOne tag op shares cause
@@ -248,7 +248,7 @@ waits_one tag op l shares cause are is rises waits =
     }
 
 -- if a number is used up, the transaction of the operation does not commit at once
-pub not_worn : (tag : Tag) (op : Op) (l : Logged) (shares : List SeatShareView) → AreTrue shares
+pub not_worn : (tag : Tag) (op : Op) (l : Logged) (shares : List SeatShareView) → AreValidShares shares
     → IsFound (share_at shares (chan_of op)) l
     → (is_worn tag.serial || is_worn (max tag.stamp l.stamp)) ≡ true → IsNotImmediate tag op shares
 not_worn tag op l shares are is worn =
@@ -264,9 +264,9 @@ not_worn tag op l shares are is worn =
     }
 
 -- if the operation has no act, its transaction does not commit at once
-pub no_act : (tag : Tag) (op : Op) (l : Logged) (shares : List SeatShareView) → AreTrue shares
+pub no_act : (tag : Tag) (op : Op) (l : Logged) (shares : List SeatShareView) → AreValidShares shares
     → IsFound (share_at shares (chan_of op)) l
-    → (is_move op ≡ true → HasNoAct (operate l.channel tag.seat None op)) → IsNotImmediate tag op shares
+    → (is_read_or_write op ≡ true → HasNoAct (operate l.channel tag.seat None op)) → IsNotImmediate tag op shares
 no_act tag op l shares are is none =
     let found : Map = put_at (known_of shares) (chan_of op) l in
     let at : found (chan_of op) ≡ l = put_here (known_of shares) (chan_of op) l in

@@ -5,10 +5,10 @@ use Rattle.std.proofs.Common.{◌++◌, length, map, slice_index_or, slice_set, 
 use Rattle.std.proofs.lemmas.List.{get_or_default}
 use mathlib.Core.List.{IsPrefix}
 use Rattle.txc_base.specs.declared.entry.Entry.{Entry}
-use Rattle.txc_table_line.specs.Ledgered.{no_channel}
+use Rattle.txc_table_line.specs.LineChan.{no_channel}
 use Rattle.txc_table_line.specs.Line.{LineId}
-use Rattle.txc_table_line.specs.SeatShare.{IsTrue, SeatShareView}
-use Rattle.txc_table_lines.specs.Lines.{AreTrue, OnlyGrew, line_ids, no_share, share_at}
+use Rattle.txc_table_line.specs.SeatShare.{IsValidShare, SeatShareView}
+use Rattle.txc_table_lines.specs.Lines.{AreValidShares, OnlyGrew, line_ids, no_share, share_at}
 
 -- an item of a list of what a function makes of another's items
 pub map_at : {X Y : Type 0} (f : X → Y) (xs : List X) (n : ℕ) (d : X) (e : Y) → n < length xs
@@ -80,9 +80,9 @@ begins_more log more added all p is =
     (p.0 ++ added, sym (append_assoc log p.0 added) ∙ ap (λ (l : List Entry). l ++ added) p.1 ∙ sym is)
 
 -- a true share in the place of another leaves all true
-pub true_set : (shares : List SeatShareView) (n : ℕ) (share : SeatShareView) → AreTrue shares → n < length shares
-    → IsTrue share
-    → AreTrue (slice_set shares n share)
+pub true_set : (shares : List SeatShareView) (n : ℕ) (share : SeatShareView) → AreValidShares shares → n < length shares
+    → IsValidShare share
+    → AreValidShares (slice_set shares n share)
 true_set [] n share are below is m lt = absurd (omega (arith, below))
 true_set (s ∷ shares) zero share are below is zero lt = is
 true_set (s ∷ shares) zero share are below is (suc m) lt = are (suc m) (omega (arith, lt))
@@ -108,8 +108,8 @@ grew_set (s ∷ shares) (suc n) share below more zero = begins_itself s.log
 grew_set (s ∷ shares) (suc n) share below more (suc m) = grew_set shares n share (omega (arith, below)) more m
 
 -- one more true share leaves all true
-pub true_push : (shares : List SeatShareView) (share : SeatShareView) → AreTrue shares → IsTrue share
-    → AreTrue (shares ++ share ∷ [])
+pub true_push : (shares : List SeatShareView) (share : SeatShareView) → AreValidShares shares → IsValidShare share
+    → AreValidShares (shares ++ share ∷ [])
 true_push [] share are is zero below = is
 true_push [] share are is (suc n) below = absurd (omega (arith, below))
 true_push (s ∷ shares) share are is zero below = are zero (omega arith)

@@ -8,11 +8,11 @@ use mathlib.Core.List.{IsPrefix}
 use Rattle.txc_chan.specs.Logged.{Logged}
 use Rattle.txc_table_line.specs.Known.{IsKnown}
 use Rattle.txc_txn.specs.Maps.{Map}
-use Rattle.txc_table_line.specs.Ledgered.{LedgeredView}
+use Rattle.txc_table_line.specs.LineChan.{LineChanView}
 use Rattle.txc_table_line.specs.SeatShare.{SeatShareView}
 use Rattle.txc_table_lines.specs.Guards.{AreLocked, AreTaken, IsFound, IsLocked, IsTaken, chan_at}
 use Rattle.txc_table_lines.specs.Guards.{channel_in, known_of}
-use Rattle.txc_table_lines.specs.Lines.{AreTrue, share_at}
+use Rattle.txc_table_lines.specs.Lines.{AreValidShares, share_at}
 use Rattle.txc_table_lines.proofs.Sharing.{begins_itself}
 
 -- one more item of a list, and one more of another that goes with it
@@ -26,8 +26,8 @@ zip_more R (x ∷ xs) (z ∷ ys) (suc i) d y below are is =
     (are.0, zip_more R xs ys i d y (omega (arith, below)) are.1 is)
 
 -- one more line was locked
-pub taken_more : (shares : List SeatShareView) (declared : List ℕ) (guards guards' : List (Option LedgeredView)) (i : ℕ)
-    (channel : LedgeredView) → i < length declared → AreTaken shares (take i declared) guards
+pub taken_more : (shares : List SeatShareView) (declared : List ℕ) (guards guards' : List (Option LineChanView)) (i : ℕ)
+    (channel : LineChanView) → i < length declared → AreTaken shares (take i declared) guards
     → guards' ≡ guards ++ Some channel ∷ [] → IsFound (share_at shares (slice_index_or declared i 0)) channel
     → AreTaken shares (take (i + 1) declared) guards'
 taken_more shares declared guards guards' i channel below are push found =
@@ -37,7 +37,7 @@ taken_more shares declared guards guards' i channel below are push found =
     (share_at shares n) guard) declared guards i 0 (Some channel) below are found))
 
 -- as many lines were locked as were taken
-pub taken_long : (shares : List SeatShareView) (declared : List ℕ) (guards : List (Option LedgeredView))
+pub taken_long : (shares : List SeatShareView) (declared : List ℕ) (guards : List (Option LineChanView))
     → AreTaken shares declared guards → length guards ≡ length declared
 taken_long shares [] [] are = refl
 taken_long shares [] (g ∷ guards) are = absurd are
@@ -45,11 +45,11 @@ taken_long shares (d ∷ declared) [] are = absurd are
 taken_long shares (d ∷ declared) (g ∷ guards) are = ap suc (taken_long shares declared guards are.1)
 
 -- a line that was found is locked
-is_locked : (share : SeatShareView) (guard : Option LedgeredView) → IsTaken share guard → IsLocked share.line guard
+is_locked : (share : SeatShareView) (guard : Option LineChanView) → IsTaken share guard → IsLocked share.line guard
 is_locked share None taken = absurd taken
 is_locked share (Some channel) taken = taken.line
 
-pub are_locked : (shares : List SeatShareView) (declared : List ℕ) (guards : List (Option LedgeredView))
+pub are_locked : (shares : List SeatShareView) (declared : List ℕ) (guards : List (Option LineChanView))
     → All (λ n. n < length shares) declared → AreTaken shares declared guards → AreLocked shares declared guards
 are_locked shares [] [] there are = tt
 are_locked shares [] (g ∷ guards) there are = absurd are
@@ -61,8 +61,8 @@ are_locked shares (d ∷ declared) (g ∷ guards) there are = (
 
 -- what is true of each channel that is known, and of each that was found, is true of the channel with each number
 pub each_found : (P : ℕ → Logged → Type 0) (shares : List SeatShareView) (declared : List ℕ)
-    (guards : List (Option LedgeredView)) (known : Map) → ((n : ℕ) → P n (known n))
-    → ((n : ℕ) (channel : LedgeredView) → IsFound (share_at shares n) channel → P n channel.held.logged)
+    (guards : List (Option LineChanView)) (known : Map) → ((n : ℕ) → P n (known n))
+    → ((n : ℕ) (channel : LineChanView) → IsFound (share_at shares n) channel → P n channel.held.logged)
     → AreTaken shares declared guards → (n : ℕ) → P n (chan_at declared (map channel_in guards) known n)
 each_found P shares [] [] known rest found are n = rest n
 each_found P shares [] (g ∷ guards) known rest found are n = absurd are
@@ -81,12 +81,12 @@ each_found P shares (d ∷ declared) (Some channel ∷ guards) known rest found 
     ]
 
 -- nothing in a channel that is known can be undone, and its log begins with what was seen
-known_clean : (shares : List SeatShareView) → AreTrue shares → (n : ℕ) → (known_of shares n).pending ≡ 0
+known_clean : (shares : List SeatShareView) → AreValidShares shares → (n : ℕ) → (known_of shares n).pending ≡ 0
 known_clean [] are n = refl
 known_clean (s ∷ shares) are zero = (are 0 (omega arith)).known.clean
 known_clean (s ∷ shares) are (suc n) = known_clean shares (λ k below. are (suc k) (omega (arith, below))) n
 
-pub known_since : (shares : List SeatShareView) → AreTrue shares → (n : ℕ)
+pub known_since : (shares : List SeatShareView) → AreValidShares shares → (n : ℕ)
     → IsPrefix (share_at shares n).log (known_of shares
     n).log
 known_since [] are n = begins_itself []
@@ -94,24 +94,24 @@ known_since (s ∷ shares) are zero = (are 0 (omega arith)).since
 known_since (s ∷ shares) are (suc n) = known_since shares (λ k below. are (suc k) (omega (arith, below))) n
 
 -- what is true of the channels of lines that were locked
-pub taken_clean : (shares : List SeatShareView) (declared : List ℕ) (guards : List (Option LedgeredView))
-    → AreTrue shares
+pub taken_clean : (shares : List SeatShareView) (declared : List ℕ) (guards : List (Option LineChanView))
+    → AreValidShares shares
     → AreTaken shares declared guards → (n : ℕ)
     → (chan_at declared (map channel_in guards) (known_of shares) n).pending ≡ 0
 taken_clean shares declared guards are taken =
     each_found (λ n l. l.pending ≡ 0) shares declared guards (known_of shares) (known_clean shares are)
     (λ n channel found. found.clean) taken
 
-pub taken_since : (shares : List SeatShareView) (declared : List ℕ) (guards : List (Option LedgeredView))
-    → AreTrue shares
+pub taken_since : (shares : List SeatShareView) (declared : List ℕ) (guards : List (Option LineChanView))
+    → AreValidShares shares
     → AreTaken shares declared guards → (n : ℕ)
     → IsPrefix (share_at shares n).log (chan_at declared (map channel_in guards) (known_of shares) n).log
 taken_since shares declared guards are taken =
     each_found (λ n l. IsPrefix (share_at shares n).log l.log) shares declared guards (known_of shares)
     (known_since shares are) (λ n channel found. found.since) taken
 
-pub taken_known : (shares : List SeatShareView) (declared : List ℕ) (guards : List (Option LedgeredView))
-    → AreTrue shares
+pub taken_known : (shares : List SeatShareView) (declared : List ℕ) (guards : List (Option LineChanView))
+    → AreValidShares shares
     → AreTaken shares declared guards → (n : ℕ) → n < length shares
     → IsKnown (share_at shares n).line.decl (share_at shares n).amount
     (chan_at declared (map channel_in guards) (known_of shares) n)

@@ -19,7 +19,7 @@ use Rattle.txc_chan.specs.Logged.{Left, Logged, op_on}
 use Rattle.txc_chan.specs.Reserved.{one_if}
 use Rattle.txc_table_line.specs.Commit.{CountsOne}
 use Rattle.txc_table_line.specs.Known.{IsKnown}
-use Rattle.txc_table_line.specs.Ledgered.{LedgeredView}
+use Rattle.txc_table_line.specs.LineChan.{LineChanView}
 use Rattle.txc_table_line.specs.SeatShare.{SeatShareView}
 use Rattle.txc_txn.specs.declared.deed.Deed.{Deed}
 use Rattle.txc_txn.specs.declared.ran.Ran.TheVariants.{Kept as RanKept}
@@ -35,7 +35,7 @@ use Rattle.txc_txn.proofs.TwoOperations.{write_no_pair, write_waits}
 use Rattle.txc_table_lines.specs.Committed.{AreCommitted, CountsCommit, IsSettled}
 use Rattle.txc_table_lines.specs.Guards as guards
 use Rattle.txc_table_lines.specs.Guards.{IsReady, known_of}
-use Rattle.txc_table_lines.specs.Lines.{AreTrue, share_at}
+use Rattle.txc_table_lines.specs.Lines.{AreValidShares, share_at}
 use Rattle.txc_table_lines.specs.OneOperation.{AreKnown}
 use Rattle.txc_table_lines.specs.TwoOperations.{IsCommittedMove, IsNoMove, MustRetryMove}
 use Rattle.txc_table_lines.proofs.Committing.{can_commit, is_marked}
@@ -77,7 +77,8 @@ module _ (from to : ℕ) (s t : Logged) (shares : List SeatShareView) (apart : f
   target_at : found to ≡ t
   target_at = put_here (put_at (known_of shares) from s) to t
 
-  are_known : AreTrue shares → IsFound (share_at shares from) s → IsFound (share_at shares to) t → AreKnown shares found
+  are_known : AreValidShares shares → IsFound (share_at shares from) s → IsFound (share_at shares to) t
+      → AreKnown shares found
   are_known are source target = record {
     known = each_put (λ k x. k < length shares → IsKnown (share_at shares k).line.decl (share_at shares k).amount x)
         (put_at (known_of shares) from s) to t
@@ -105,7 +106,7 @@ module _ (from to : ℕ) (s t : Logged) (shares : List SeatShareView) (apart : f
       (sym (greatest_is tag.stamp))
 
 -- the channels that the seat may find
-begins_known : (tag kept : Tag) (from to : ℕ) (s t : Logged) (shares : List SeatShareView) → AreTrue shares
+begins_known : (tag kept : Tag) (from to : ℕ) (s t : Logged) (shares : List SeatShareView) → AreValidShares shares
     → Begins tag kept from to s t shares → AreKnown shares (found_both shares from to s t)
 begins_known tag kept from to s t shares are b = are_known from to s t shares b.apart are b.source b.target
 
@@ -116,7 +117,7 @@ most_is stamp s t one two a b a_is one_is b_is two_is =
     b_is ∙ ap (λ n. max n two) (a_is ∙ ap (max stamp) one_is) ∙ ap (max (max stamp s)) two_is
 
 -- a move begins on the lines that were locked
-pub begins_move : (tag kept : Tag) (from to most : ℕ) (source target : LedgeredView) (shares : List SeatShareView)
+pub begins_move : (tag kept : Tag) (from to most : ℕ) (source target : LineChanView) (shares : List SeatShareView)
     → from ≢ to → guards.IsFound (share_at shares from) source → guards.IsFound (share_at shares to) target
     → most ≡ max (max tag.stamp source.held.logged.stamp) target.held.logged.stamp
     → ((is_worn tag.serial || is_worn most) ≡ false)
@@ -138,7 +139,7 @@ pub err_so : {A E : Type 0} (result : Result A E) (e : E) (P : E → Type 0) →
 err_so result e P is h = subst (λ r. IfErr r P) is h
 
 -- if a number is used up, there is no move
-pub worn_move : (tag : Tag) (from reader to : ℕ) (s t : Logged) (shares : List SeatShareView) → AreTrue shares
+pub worn_move : (tag : Tag) (from reader to : ℕ) (s t : Logged) (shares : List SeatShareView) → AreValidShares shares
     → from ≢ to → IsFound (share_at shares from) s → IsFound (share_at shares to) t
     → (is_worn tag.serial || is_worn (max (max tag.stamp s.stamp) t.stamp)) ≡ true
     → IsNoMove tag from reader to shares
@@ -150,7 +151,8 @@ worn_move tag from reader to s t shares are apart source target worn = record {
 }
 
 -- if the read takes nothing, there is no move
-pub read_none : (tag kept : Tag) (from reader to : ℕ) (s t : Logged) (shares : List SeatShareView) → AreTrue shares
+pub read_none : (tag kept : Tag) (from reader to : ℕ) (s t : Logged) (shares : List SeatShareView)
+    → AreValidShares shares
     → Begins tag kept from to s t shares
     → ((item : Item) (left : Logged) → op_on s kept None (Read from reader) ≢ Left (Got item) left)
     → IsNoMove tag from reader to shares
@@ -168,7 +170,7 @@ read_none tag kept from reader to s t shares are b none =
 
 -- if the read waits, the move must be retried
 pub read_retries : (tag kept : Tag) (from reader to : ℕ) (s t : Logged) (shares : List SeatShareView) (cause : Cause)
-    → AreTrue shares → Begins tag kept from to s t shares
+    → AreValidShares shares → Begins tag kept from to s t shares
     → operate s.channel kept.seat None (Read from reader) ≡ Waits cause → MustRetryMove tag from reader to shares cause
 read_retries tag kept from reader to s t shares cause are b waits =
     let m : Map = found_both shares from to s t in
@@ -184,7 +186,7 @@ read_retries tag kept from reader to s t shares cause are b waits =
 
 -- if the write waits, the move must be retried
 pub write_retries : (tag kept : Tag) (from reader to : ℕ) (item : Item) (s mid t : Logged)
-    (shares : List SeatShareView) (cause : Cause) → AreTrue shares → Begins tag kept from to s t shares
+    (shares : List SeatShareView) (cause : Cause) → AreValidShares shares → Begins tag kept from to s t shares
     → op_on s kept None (Read from reader) ≡ Left (Got item) mid
     → operate t.channel tag.seat None (Write to (Lit item.body)) ≡ Waits cause
     → MustRetryMove tag from reader to shares cause
@@ -204,7 +206,7 @@ write_retries tag kept from reader to item s mid t shares cause are b took waits
 
 -- if the write has no act, there is no move
 pub write_none : (tag kept : Tag) (from reader to : ℕ) (item : Item) (s mid t : Logged) (shares : List SeatShareView)
-    → AreTrue shares → Begins tag kept from to s t shares
+    → AreValidShares shares → Begins tag kept from to s t shares
     → op_on s kept None (Read from reader) ≡ Left (Got item) mid
     → HasNoAct (operate t.channel tag.seat None (Write to (Lit item.body))) → IsNoMove tag from reader to shares
 write_none tag kept from reader to item s mid t shares are b took none =
@@ -396,7 +398,7 @@ module _ (tag kept : Tag) (from reader to : ℕ) (item : Item) (act : Act) (s mi
   left_rest : (n : ℕ) → n ≢ from → n ≢ to → left n ≡ m n
   left_rest n off out = put_elsewhere (put_at m from s') to n t' out ∙ put_elsewhere m from n s' off
 
-  pub committed_move : AreTrue shares → IsCommittedMove tag from reader to shares after receipt
+  pub committed_move : AreValidShares shares → IsCommittedMove tag from reader to shares after receipt
   committed_move are = record {
     found = m;
     left = left;

@@ -5,7 +5,7 @@ use Rattle.std.proofs.lemmas.List.{get_or-reverse, length-reverse, length_push, 
 use Rattle.std.proofs.Math.ListN.{get_or-append}
 use Rattle.std.specs.Prelude.{reverse}
 use Rattle.txc_chan.specs.ChanView.{ChanView}
-use Rattle.txc_table_line.specs.Ledgered.{LedgeredView}
+use Rattle.txc_table_line.specs.LineChan.{LineChanView}
 use Rattle.txc_table_line.specs.Line.{LineId}
 use Rattle.txc_table_lines.specs.Guards.{channel_in}
 use Rattle.txc_table_lines.specs.Locked.{AreClean, IsLineThere, helds_of, lines_of}
@@ -30,19 +30,19 @@ line_more of P locks locks' lock are push is =
     subst (All P) (sym (ap (map of) push ∙ map_push of locks lock)) (all_push P (map of locks) (of lock) are is)
 
 -- the channels of lines and of one more
-pub channels_push : (items items' : List (Option LedgeredView)) (x : LedgeredView) → items' ≡ items ++ Some x ∷ []
+pub channels_push : (items items' : List (Option LineChanView)) (x : LineChanView) → items' ≡ items ++ Some x ∷ []
     → map channel_in items' ≡ map channel_in items ++ x ∷ []
 channels_push items items' x push = ap (map channel_in) push ∙ map_push channel_in items (Some x)
 
-lines_push : (items items' : List (Option LedgeredView)) (x : LedgeredView) → items' ≡ items ++ Some x ∷ []
+lines_push : (items items' : List (Option LineChanView)) (x : LineChanView) → items' ≡ items ++ Some x ∷ []
     → lines_of (map channel_in items') ≡ lines_of (map channel_in items) ++ x.line ∷ []
 lines_push items items' x push =
     ap lines_of (channels_push items items' x push)
-    ∙ map_push (λ (c : LedgeredView). c.line) (map channel_in items) x
+    ∙ map_push (λ (c : LineChanView). c.line) (map channel_in items) x
 
 -- one more line is locked
 pub one_locked : {L : Type 0} (of : L → LineId) (locks locks' : List L) (lock : L)
-    (items items' : List (Option LedgeredView)) (x : LedgeredView) (all : List LineId)
+    (items items' : List (Option LineChanView)) (x : LineChanView) (all : List LineId)
     → lines_of (map channel_in items) ++ map of (reverse locks) ≡ all → locks ≡ locks' ++ lock ∷ []
     → items' ≡ items ++ Some x ∷ [] → x.line ≡ of lock
     → lines_of (map channel_in items') ++ map of (reverse locks') ≡ all
@@ -55,22 +55,22 @@ one_locked {L} of locks locks' lock items items' x all are pop push line =
     ∙ are
 
 -- .. in which nothing can be undone
-pub one_clean : (items items' : List (Option LedgeredView)) (x : LedgeredView)
+pub one_clean : (items items' : List (Option LineChanView)) (x : LineChanView)
     → AreClean (helds_of (map channel_in items)) → items' ≡ items ++ Some x ∷ [] → x.held.logged.pending ≡ 0
     → AreClean (helds_of (map channel_in items'))
 one_clean items items' x are push clean =
     subst AreClean (sym (ap helds_of (channels_push items items' x push)
-    ∙ map_push (λ (c : LedgeredView). c.held) (map channel_in items) x))
+    ∙ map_push (λ (c : LineChanView). c.held) (map channel_in items) x))
     (all_push (λ (h : ChanView). h.logged.pending ≡ 0) (helds_of (map channel_in items)) x.held are clean)
 
 -- .. and is there
-pub one_there : (items items' : List (Option LedgeredView)) (x : LedgeredView) → All IsLineThere items
+pub one_there : (items items' : List (Option LineChanView)) (x : LineChanView) → All IsLineThere items
     → items' ≡ items ++ Some x ∷ [] → All IsLineThere items'
 one_there items items' x are push = subst (All IsLineThere) (sym push) (all_push IsLineThere items (Some x) are tt)
 
 -- one more line is unlocked
 pub one_unlocked : {L : Type 0} (of : L → LineId) (locks locks' : List L) (lock : L)
-    (items items' : List (Option LedgeredView)) (x : LedgeredView) (all : List LineId)
+    (items items' : List (Option LineChanView)) (x : LineChanView) (all : List LineId)
     → map of locks ++ lines_of (map channel_in (reverse items)) ≡ all → items ≡ items' ++ Some x ∷ []
     → locks' ≡ locks ++ lock ∷ [] → of lock ≡ x.line
     → map of locks' ++ lines_of (map channel_in (reverse items')) ≡ all
@@ -78,7 +78,7 @@ one_unlocked of locks locks' lock items items' x all are pop push line =
     ap (λ ls. ls ++ lines_of (map channel_in (reverse items'))) (ap (map of) push ∙ map_push of locks lock)
     ∙ append_assoc (map of locks) (of lock ∷ []) (lines_of (map channel_in (reverse items')))
     ∙ ap (λ l. map of locks ++ l ∷ lines_of (map channel_in (reverse items'))) line
-    ∙ ap (λ (os : List (Option LedgeredView)). map of locks ++ lines_of (map channel_in os))
+    ∙ ap (λ (os : List (Option LineChanView)). map of locks ++ lines_of (map channel_in os))
     (sym (ap reverse pop ∙ reverse-append items' (Some x ∷ [])))
     ∙ are
 
@@ -96,11 +96,11 @@ all_front {X} P xs ys x push are k d below =
     (are k d (omega (arith, below, ap length push, length_push ys x)))
 
 -- no line is unlocked yet
-pub none_unlocked : {L : Type 0} (of : L → LineId) (locks : List L) (items items' : List (Option LedgeredView))
-    (now : List LedgeredView) → locks ≡ [] → items' ≡ reverse items → map channel_in items ≡ now
+pub none_unlocked : {L : Type 0} (of : L → LineId) (locks : List L) (items items' : List (Option LineChanView))
+    (now : List LineChanView) → locks ≡ [] → items' ≡ reverse items → map channel_in items ≡ now
     → map of locks ++ lines_of (map channel_in (reverse items')) ≡ lines_of now
 none_unlocked {L} of locks items items' now none back view =
     ap (λ (ls : List L). map of ls ++ lines_of (map channel_in (reverse items'))) none
-    ∙ ap (λ (os : List (Option LedgeredView)). lines_of (map channel_in os))
+    ∙ ap (λ (os : List (Option LineChanView)). lines_of (map channel_in os))
     (ap reverse back ∙ reverse-reverse items)
     ∙ ap lines_of view

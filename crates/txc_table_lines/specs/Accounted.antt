@@ -49,7 +49,8 @@ summary_in account = record {
 }
 
 -- these are the accounts of the first of these channels, without their logs
-pub record AreBriefs (lines : List Decl) (helds : List ChanView) (count : ℕ) (summaries : List Summary) : Type 0 where
-  pub accounts : List Account
-  pub are : AreAccounts lines helds count accounts
-  pub summarized : summaries ≡ map summary_in accounts
+pub record AreSummaries (lines : List Decl) (helds : List ChanView) (count : ℕ) (summaries : List Summary) : Type 0
+  where
+    pub accounts : List Account
+    pub are : AreAccounts lines helds count accounts
+    pub summarized : summaries ≡ map summary_in accounts

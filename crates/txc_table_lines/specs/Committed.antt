@@ -2,7 +2,7 @@
 use Rattle.std.specs.Prelude.{◌≡◌, ◌<◌, ◌+◌, ◌++◌, ◌∷◌, [], ℕ, List, length, AllPairs, Contains, slice_index_or}
 use mathlib.Core.List.{IsPrefix}
 use Rattle.txc_base.specs.declared.tag.Tag.{Tag}
-use Rattle.txc_chan.specs.Logged.{IsLawful, Logged, settled}
+use Rattle.txc_chan.specs.Logged.{MatchesLog, Logged, settled}
 use Rattle.txc_table_line.specs.Marks.{HasNewMark, last_len, last_mark_stamp}
 use Rattle.txc_table_line.specs.declared.mark.Mark.{Mark}
 use Rattle.txc_txn.specs.declared.ran.Ran.{Ran}
@@ -10,8 +10,8 @@ use Rattle.txc_txn.specs.declared.ran.Ran.TheVariants.{Kept as RanKept, Retry as
 use Rattle.txc_txn.specs.declared.receipt.Receipt.{Receipt}
 use Rattle.txc_txn.specs.Maps.{Map}
 use Rattle.txc_txn.specs.Run.{count_deeds}
-use Rattle.txc_table_line.specs.Ledgered.{no_channel}
-use Rattle.txc_table_line.specs.SeatShare.{IsTrue, SeatShareView}
+use Rattle.txc_table_line.specs.LineChan.{no_channel}
+use Rattle.txc_table_line.specs.SeatShare.{IsValidShare, SeatShareView}
 use Rattle.txc_table_lines.specs.Guards.{GuardsView}
 use Rattle.txc_table_lines.specs.Lines.{share_at}
 
@@ -34,7 +34,7 @@ pub record IsSettled (tag : Tag) (found : Logged) (old : SeatShareView) (left : 
   pub made : new.made ≡ old.made + 1
   pub marked : HasNewMark found tag old.marks new.marks
   pub known : new.known ≡ left
-  pub true_share : IsTrue new
+  pub true_share : IsValidShare new
 
 -- the line at this place among the locked ones was settled
 abbrev pub SettledAt : Tag → ℕ → GuardsView → List SeatShareView → GuardsView → List SeatShareView → Type 0
@@ -51,7 +51,7 @@ pub record AreSettled (declared : List ℕ) (tag : Tag) (found : Map) (before : 
 -- what was seen of the marks of a channel that was found so: what it had been, all that it had then, which its stamp
 -- and its log were of, and one with this tag at the end of the log that was left
 pub record HasItsMark (found left : Logged) (tag : Tag) (old new : List Mark) : Type 0 where
-  pub lawful : IsLawful left
+  pub lawful : MatchesLog left
   pub before : List Mark
   pub rise : AllPairs (λ one other. one.tag.stamp < other.tag.stamp) before
   pub stamp : last_mark_stamp before ≡ found.stamp

@@ -3,9 +3,9 @@ use Rattle.std.specs.Prelude.{◌<◌, ℕ, List, [], length, map, slice_index_o
 use mathlib.Core.List.{IsPrefix}
 use Rattle.txc_chan.specs.Logged.{opened}
 use Rattle.txc_txn.specs.Maps.{Map}
-use Rattle.txc_table_line.specs.Ledgered.{no_channel}
+use Rattle.txc_table_line.specs.LineChan.{no_channel}
 use Rattle.txc_table_line.specs.Line.{LineId}
-use Rattle.txc_table_line.specs.SeatShare.{IsTrue, SeatShareView}
+use Rattle.txc_table_line.specs.SeatShare.{IsValidShare, SeatShareView}
 
 -- the share of a line that does not exist
 abbrev pub no_share : SeatShareView
@@ -31,8 +31,8 @@ abbrev pub line_ids : List SeatShareView → List LineId
 line_ids shares = map (λ share. share.line) shares
 
 -- each of these shares is a true one
-abbrev pub AreTrue : List SeatShareView → Type 0
-AreTrue shares = (n : ℕ) → n < length shares → IsTrue (share_at shares n)
+abbrev pub AreValidShares : List SeatShareView → Type 0
+AreValidShares shares = (n : ℕ) → n < length shares → IsValidShare (share_at shares n)
 
 -- the log of each channel begins with what was seen of it
 abbrev pub AreSince : List SeatShareView → Map → Type 0

@@ -9,7 +9,7 @@ use Rattle.txc_table_line.specs.Known.{IsKnown}
 use Rattle.txc_txn.specs.declared.ran.Ran.TheVariants.{Kept as RanKept}
 use Rattle.txc_txn.specs.declared.receipt.Receipt.{Receipt}
 use Rattle.txc_txn.specs.AtOnce.{IsImmediate}
-use Rattle.txc_txn.specs.InLog.{ReceiptStands}
+use Rattle.txc_txn.specs.InLog.{ReceiptIsInLog}
 use Rattle.txc_txn.specs.Maps.{Map}
 use Rattle.txc_txn.specs.Run.{PlacesRise, RanSettled}
 use Rattle.txc_txn.specs.Transaction.{Again, kept_tag, transaction}
@@ -32,7 +32,7 @@ pub record IsCommittedOne (tag : Tag) (op : Op) (before after : List SeatShareVi
       (transaction found tag (chan_of op ∷ []) (Do op ∷ [])) (RanKept receipt) found left
   pub committed : (n : ℕ) → AreCommitted (chan_of op ∷ []) found left receipt before after n
   pub grew : OnlyGrew before after
-  pub stand : ReceiptStands (λ n. (share_at after n).log) receipt
+  pub stand : ReceiptIsInLog (λ n. (share_at after n).log) receipt
   pub inside : HasNoneOutside (chan_of op ∷ []) receipt
   pub rise : PlacesRise receipt
   pub later : tag.stamp < receipt.tag.stamp

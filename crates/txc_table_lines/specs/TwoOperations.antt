@@ -4,7 +4,7 @@ use Rattle.txc_base.specs.declared.cause.Cause.{Cause}
 use Rattle.txc_base.specs.declared.tag.Tag.{Tag}
 use Rattle.txc_txn.specs.declared.ran.Ran.TheVariants.{Kept as RanKept}
 use Rattle.txc_txn.specs.declared.receipt.Receipt.{Receipt}
-use Rattle.txc_txn.specs.InLog.{ReceiptStands}
+use Rattle.txc_txn.specs.InLog.{ReceiptIsInLog}
 use Rattle.txc_txn.specs.Maps.{Map}
 use Rattle.txc_txn.specs.Run.{PlacesRise, RanSettled}
 use Rattle.txc_txn.specs.Transaction.{Again, kept_tag, transaction}
@@ -24,7 +24,7 @@ pub record IsCommittedMove (tag : Tag) (from reader to : ℕ) (before after : Li
       (transaction found tag (lower_first from to) (move_steps from reader to)) (RanKept receipt) found left
   pub committed : (n : ℕ) → AreCommitted (lower_first from to) found left receipt before after n
   pub grew : OnlyGrew before after
-  pub stand : ReceiptStands (λ n. (share_at after n).log) receipt
+  pub stand : ReceiptIsInLog (λ n. (share_at after n).log) receipt
   pub inside : HasNoneOutside (lower_first from to) receipt
   pub rise : PlacesRise receipt
   pub later : tag.stamp < receipt.tag.stamp

@@ -1,7 +1,7 @@
 // Accounts of the lines at the end of a table.
 ghost use Rattle.std.specs.Prelude.{◌≡◌, ◌<◌, length, IfErr, IfOk};
-ghost use Rattle.txc_table_lines.specs.Accounted.{AreAccounts, AreBriefs, IsSnapshotAt, with_log_at, with_logs};
-ghost use Rattle.txc_table_lines.specs.Locked.{AreClean, AreWhole, books_in, books_of, line_decls_of, helds_of};
+ghost use Rattle.txc_table_lines.specs.Accounted.{AreAccounts, AreSummaries, IsSnapshotAt, with_log_at, with_logs};
+ghost use Rattle.txc_table_lines.specs.Locked.{AreClean, AreWhole, ledgers_in, ledgers_of, line_decls_of, helds_of};
 ghost use Rattle.txc_table_lines.specs.Locked.{lines_of};
 
 use crate::collected_shares::CollectedShares;
@@ -33,7 +33,7 @@ impl<K: Log> LockedLines<K> {
     pub fn summaries(&mut self, alloc: Global) -> Result<Vec<Summary>, Stop>
         requires clean { AreClean (helds_of self.old) }
         ensures ok { IfOk result (λ summaries.
-            AreBriefs (line_decls_of self.old) (helds_of self.old) (length self.old) summaries.items) }
+            AreSummaries (line_decls_of self.old) (helds_of self.old) (length self.old) summaries.items) }
         ensures err { IfErr result (λ stop. stop ≡ Stop.NoMemory) }
         ensures same { self.new ≡ self.old }
     {
@@ -71,7 +71,7 @@ impl LockedLines<FullLog> {
         accounts: Vec<Account>,
         shares: CollectedShares,
     ) -> Vec<Account>
-        requires of { books_in shares ≡ books_of (lines_of self) }
+        requires of { ledgers_in shares ≡ ledgers_of (lines_of self) }
         requires whole { AreWhole shares }
         requires clean { AreClean (helds_of self) }
         ensures { result.items ≡ with_logs accounts.items (helds_of self) }
@@ -82,7 +82,7 @@ impl LockedLines<FullLog> {
         let mut at = 0usize;
         for line in lines {
             match line {
-                Some(line) => give_log(&mut accounts, at, line.into_log(rt, &mut shares[at])),
+                Some(line) => set_log(&mut accounts, at, line.into_log(rt, &mut shares[at])),
                 None => unreachable!(),
             }
             at += 1;
@@ -92,7 +92,7 @@ impl LockedLines<FullLog> {
 }
 
 /// Gives the account at this place, if there is one, the log of its channel.
-fn give_log(accounts: &mut Vec<Account>, at: usize, log: Vec<Entry>)
+fn set_log(accounts: &mut Vec<Account>, at: usize, log: Vec<Entry>)
     ensures { accounts.new.items ≡ with_log_at accounts.old.items at log.items }
 {
     if at < accounts.len() {

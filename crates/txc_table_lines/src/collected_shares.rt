@@ -3,7 +3,7 @@ ghost use Rattle.std.specs.Prelude.{◌≡◌, ◌<◌, ◌+◌, ℕ, length, re
 ghost use Rattle.txc_table_line.specs.Sums.{sums};
 ghost use Rattle.txc_table_lines.specs.Lines.{line_ids};
 ghost use Rattle.txc_table_lines.specs.Locked.{AreClean, AreWhole, HaveParts, IsLineCounted, LogsCount};
-ghost use Rattle.txc_table_lines.specs.Locked.{MarksCount, amounts_in, amounts_of, books_in, books_of, channel_at};
+ghost use Rattle.txc_table_lines.specs.Locked.{MarksCount, amounts_in, amounts_of, ledgers_in, ledgers_of, channel_at};
 ghost use Rattle.txc_table_lines.specs.Locked.{collected_at, helds_of, lines_of, made_in, made_of, line_marks_of};
 
 use crate::locked_lines::LockedLines;
@@ -11,19 +11,19 @@ use crate::seat_shares::SeatShares;
 use std::alloc::{AllocError, Global};
 use std::marker::Model;
 use txc_chan::Log;
-use txc_table_line::BookShares;
+use txc_table_line::LedgerShares;
 
-/// The shares that some seats have of the books of each line, joined. In a contract it is the list of them.
+/// The shares that some seats have of the ledgers of each line, joined. In a contract it is the list of them.
 #[derive(Drop)]
 pub struct CollectedShares {
-    pub(crate) shares: Vec<BookShares>,
+    pub(crate) shares: Vec<LedgerShares>,
 }
 
 impl Model for CollectedShares {
     ghost use Rattle.std.specs.Prelude.{List};
-    ghost use Rattle.txc_table_line.specs.Line.{BookSharesView};
+    ghost use Rattle.txc_table_line.specs.Line.{LedgerSharesView};
 
-    ghost Value = { List BookSharesView };
+    ghost Value = { List LedgerSharesView };
 
     ghost view = { λ all. all.shares.items };
 }
@@ -31,8 +31,8 @@ impl Model for CollectedShares {
 impl CollectedShares {
     /// Adds what one more seat has of the lines. At run time it only frees memory.
     pub fn gain<K: Log>(&mut self, shares: SeatShares<K>)
-        requires of { books_in self.old ≡ books_of (line_ids shares) }
-        ensures books { books_in self.new ≡ books_in self.old }
+        requires of { ledgers_in self.old ≡ ledgers_of (line_ids shares) }
+        ensures ledgers { ledgers_in self.new ≡ ledgers_in self.old }
         ensures parts { (n : ℕ) → HaveParts n self.old → HaveParts (n + 1) self.new }
         ensures amounts { amounts_in self.new ≡ sums (amounts_in self.old) (amounts_of shares) }
         ensures made { made_in self.new ≡ sums (made_in self.old) (made_of shares) }
@@ -46,23 +46,23 @@ impl CollectedShares {
 }
 
 impl<K: Log> LockedLines<K> {
-    /// Returns shares of the books of a line without a part, which count nothing. Does nothing at run time.
-    fn no_shares_at(&mut self, at: usize) -> BookShares
+    /// Returns shares of the ledgers of a line without a part, which count nothing. Does nothing at run time.
+    fn empty_shares_at(&mut self, at: usize) -> LedgerShares
         requires { at < length self.old }
-        ensures books { result.books ≡ (channel_at self.old at).line.books }
+        ensures ledgers { result.ledgers ≡ (channel_at self.old at).line.ledgers }
         ensures none { (result.parts ≡ 0) × (result.amount ≡ 0) × (result.made ≡ 0) }
         ensures same { self.new ≡ self.old }
     {
         match &mut self.lines.as_mut_slice()[at] {
-            Some(line) => line.no_shares(),
+            Some(line) => line.empty_shares(),
             None => unreachable!(),
         }
     }
 
-    /// Returns shares of the lines' books without a part, which count nothing. Returns `AllocError` if an allocation
+    /// Returns shares of the lines' ledgers without a part, which count nothing. Returns `AllocError` if an allocation
     /// fails.
-    pub fn no_shares(&mut self, alloc: Global) -> Result<CollectedShares, AllocError>
-        ensures books { IfOk result (λ shares. books_in shares ≡ books_of (lines_of self.old)) }
+    pub fn empty_shares(&mut self, alloc: Global) -> Result<CollectedShares, AllocError>
+        ensures ledgers { IfOk result (λ shares. ledgers_in shares ≡ ledgers_of (lines_of self.old)) }
         ensures parts { IfOk result (HaveParts 0) }
         ensures amounts { IfOk result (λ shares. amounts_in shares ≡ replicate (length self.old) 0) }
         ensures made { IfOk result (λ shares. made_in shares ≡ replicate (length self.old) 0) }
@@ -70,14 +70,14 @@ impl<K: Log> LockedLines<K> {
     {
         let mut shares = Vec::with_capacity(alloc, self.len())?;
         for at in 0..self.len() {
-            shares.push_reserved(self.no_shares_at(at));
+            shares.push_reserved(self.empty_shares_at(at));
         }
         Ok(CollectedShares { shares })
     }
 
     /// Shows for one line what `show_whole` shows for all lines. Does nothing at run time.
     fn show_whole_at(&mut self, at: usize, shares: &mut CollectedShares)
-        requires of { books_in shares.old ≡ books_of (lines_of self.old) }
+        requires of { ledgers_in shares.old ≡ ledgers_of (lines_of self.old) }
         requires there { at < length self.old }
         requires whole { AreWhole shares.old }
         requires clean { AreClean (helds_of self.old) }
@@ -94,7 +94,7 @@ impl<K: Log> LockedLines<K> {
     /// Shows that the shares of all seats count the whole logs, in which nothing may be left to undo, and all marks.
     /// Does nothing at run time.
     pub fn show_whole(&mut self, shares: &mut CollectedShares)
-        requires of { books_in shares.old ≡ books_of (lines_of self.old) }
+        requires of { ledgers_in shares.old ≡ ledgers_of (lines_of self.old) }
         requires whole { AreWhole shares.old }
         requires clean { AreClean (helds_of self.old) }
         ensures whole { LogsCount (helds_of self.old) (amounts_in shares.old) }

@@ -1,14 +1,14 @@
 // The lines in a transaction.
 ghost use Rattle.std.specs.Prelude.{◌≡◌, ◌≢◌, ◌<◌, ◌≤◌, ℕ, All, Contains, IfErr, IfOk, OnErr};
 ghost use Rattle.std.specs.Prelude.{length, slice_index_or, slice_set};
-ghost use Rattle.txc_txn_check.specs.Limits.{IsRising, most_declared};
+ghost use Rattle.txc_txn_check.specs.Limits.{IsRising, max_declared};
 ghost use Rattle.txc_txn_check.specs.Steps.{Fits};
 ghost use Rattle.txc_table_line.specs.Known.{IsKnown};
-ghost use Rattle.txc_txn.specs.InLog.{ReceiptStands};
+ghost use Rattle.txc_txn.specs.InLog.{ReceiptIsInLog};
 ghost use Rattle.txc_txn.specs.Maps.{kinds_of, settle_all};
 ghost use Rattle.txc_txn.specs.Run.{IfKept, PlacesRise, RanSettled};
 ghost use Rattle.txc_txn.specs.Transaction.{Aborted, kept_tag, transaction};
-ghost use Rattle.txc_table_line.specs.Ledgered.{no_channel};
+ghost use Rattle.txc_table_line.specs.LineChan.{no_channel};
 ghost use Rattle.txc_table_lines.specs.Committed.{AreCommitted, AreSettled, HasNoneOutside, IfRetry, SettledAt};
 ghost use Rattle.txc_table_lines.specs.Guards.{IsReady, ChangesAt, IsFound, chans_of, first_place_of};
 ghost use Rattle.txc_table_lines.specs.Lines.{AreSince, OnlyGrew, line_ids, share_at};
@@ -23,7 +23,7 @@ use txc_base::{Stop, Tag};
 use txc_chan::Log;
 use txc_table_line::LineGuard;
 use txc_txn::{Checked, Ran, Receipt, run_pending};
-use txc_txn_check::MOST_DECLARED;
+use txc_txn_check::MAX_DECLARED;
 
 /// How often a thread that takes several locks tries for one that is taken before it queues for it: to sleep there
 /// keeps the locks that it has from all others.
@@ -34,7 +34,7 @@ const TRIES: u32 = 12;
 #[derive(Drop)]
 pub struct Guards<'a, K: Log> {
     pub(crate) declared: &'a [u16],
-    pub(crate) locked: ArrayVec<Option<LineGuard<'a, K>>, MOST_DECLARED>,
+    pub(crate) locked: ArrayVec<Option<LineGuard<'a, K>>, MAX_DECLARED>,
     known: Snapshot<SeatShares<K>>,
 }
 
@@ -83,7 +83,7 @@ impl<'a, K: Log> Guards<'a, K> {
     ) -> Guards<'a, K>
         requires of { line_ids shares.old ≡ lines.now }
         requires there { All (λ n. n < length lines.now) declared.now }
-        requires few { length declared.now ≤ most_declared }
+        requires few { length declared.now ≤ max_declared }
         ensures declared { result.declared ≡ declared.now }
         ensures seat { result.known ≡ shares.old }
         ensures known { (n : ℕ) → n < length lines.now
@@ -182,7 +182,7 @@ impl<'a, K: Log> Guards<'a, K> {
         ensures committed { IfOk result (λ ran. IfKept ran (λ receipt. (n : ℕ) → AreCommitted checked.now.declared
             (chans_of self.old) (chans_of self.new) receipt shares.old shares.new n)) }
         ensures grew { IfOk result (λ ran. IfKept ran (λ receipt. OnlyGrew shares.old shares.new)) }
-        ensures stand { IfOk result (λ ran. IfKept ran (ReceiptStands (λ n. (share_at shares.new n).log))) }
+        ensures stand { IfOk result (λ ran. IfKept ran (ReceiptIsInLog (λ n. (share_at shares.new n).log))) }
         ensures inside { IfOk result (λ ran. IfKept ran (HasNoneOutside checked.now.declared)) }
         ensures rise { IfOk result (λ ran. IfKept ran PlacesRise) }
         ensures later { IfOk result (λ ran. IfKept ran (λ receipt. tag.stamp < receipt.tag.stamp)) }

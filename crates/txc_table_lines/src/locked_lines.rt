@@ -11,7 +11,7 @@ ghost use Rattle.txc_table_lines.specs.Locked.{AllMarked, AreClean, IsLineSeen, 
 ghost use Rattle.txc_table_lines.specs.Locked.{line_marks_of};
 
 use crate::lines::Lines;
-use crate::lock_room::LockRoom;
+use crate::lock_buffer::LockBuffer;
 use crate::seat_shares::SeatShares;
 use std::marker::Model;
 use std::sync::Wait;
@@ -30,11 +30,11 @@ pub struct LockedLines<K: Log> {
 
 impl<K: Log> Model for LockedLines<K> {
     ghost use Rattle.std.specs.Prelude.{◌≡◌, ◌≤◌, [], All, List, length, map, vec_capacity};
-    ghost use Rattle.txc_table_line.specs.Ledgered.{LedgeredView};
+    ghost use Rattle.txc_table_line.specs.LineChan.{LineChanView};
     ghost use Rattle.txc_table_lines.specs.Guards.{channel_in};
     ghost use Rattle.txc_table_lines.specs.Locked.{IsLineThere};
 
-    ghost Value = { List LedgeredView };
+    ghost Value = { List LineChanView };
 
     ghost view = { λ all. map channel_in all.lines.items };
 
@@ -44,13 +44,13 @@ impl<K: Log> Model for LockedLines<K> {
 
 impl<K: Log> Lines<K> {
     /// Locks all lines, and undoes what was not committed. A lock whose guard was never dropped blocks for ever.
-    pub fn lock_all<R: Wait>(self, rt: &R, room: LockRoom<K>) -> LockedLines<K>
+    pub fn lock_all<R: Wait>(self, rt: &R, room: LockBuffer<K>) -> LockedLines<K>
         requires room { length self ≤ room }
         ensures lines { lines_of result ≡ self }
         ensures clean { AreClean (helds_of result) }
     {
         let Lines { mut locks } = self;
-        let LockRoom { mut lines } = room;
+        let LockBuffer { mut lines } = room;
         locks.reverse();
         while let Some(lock) = locks.pop() {
             lines.push_reserved(Some(LockedLine::new(rt, lock)));
@@ -61,7 +61,7 @@ impl<K: Log> Lines<K> {
 
 impl<K: Log> LockedLines<K> {
     /// Unlocks all lines, and returns them with the room for their locks.
-    pub fn unlock(self) -> (Lines<K>, LockRoom<K>)
+    pub fn unlock(self) -> (Lines<K>, LockBuffer<K>)
         ensures lines { result.0 ≡ lines_of self }
         ensures room { length self ≤ result.1 }
     {
@@ -76,7 +76,7 @@ impl<K: Log> LockedLines<K> {
                 None => unreachable!(),
             }
         }
-        (Lines { locks }, LockRoom { lines })
+        (Lines { locks }, LockBuffer { lines })
     }
 
     /// Returns how many lines there are.

@@ -1,7 +1,7 @@
 // A transaction of one operation, on its line.
 ghost use Rattle.std.specs.Prelude.{◌≡◌, ◌≢◌, ◌<◌, true, length, IfOk, OnErr};
 ghost use Rattle.txc_base.specs.declared.cause.Cause.{Cause as Causes};
-ghost use Rattle.txc_base.specs.Kinds.{suits};
+ghost use Rattle.txc_base.specs.Kinds.{supports};
 ghost use Rattle.txc_base.specs.Op.{chan_of};
 ghost use Rattle.txc_table_lines.specs.Lines.{line_ids, share_at};
 ghost use Rattle.txc_table_lines.specs.OneOperation.{IsCommittedOne, IsNotImmediate, MustRetryOne};
@@ -13,7 +13,7 @@ use std::alloc::{AllocError, Global};
 use std::sync::Wait;
 use txc_base::{Cause, Op};
 use txc_chan::Log;
-use txc_txn::{Deed, Receipt, ReceiptRoom, tag_after};
+use txc_txn::{Deed, Receipt, ReceiptBuffers, tag_after};
 
 /// How an attempt to commit a transaction of one operation at once ended.
 #[derive(Debug, Clone, Copy, PartialEq, Eq)]
@@ -44,7 +44,7 @@ impl<K: Log> SeatShares<K> {
     ) -> Result<AtOnce, AllocError>
         requires of { line_ids self.old ≡ lines.now }
         requires there { chan_of op.now < length lines.now }
-        requires suits { suits (share_at self.old (chan_of op.now)).line.decl.kind op.now ≡ true }
+        requires supports { supports (share_at self.old (chan_of op.now)).line.decl.kind op.now ≡ true }
         ensures done { IfOk result (λ is. is ≡ AtOnce.Committed
             → IsCommittedOne receipt.old.tag op.now self.old self.new receipt.new) }
         ensures retry { (cause : Causes) → IfOk result (λ is. is ≡ AtOnce.MustRetry cause
@@ -58,12 +58,12 @@ impl<K: Log> SeatShares<K> {
         self.show();
         let chan = op.chan();
         let mut guard = take_line(rt, lines, chan, 0, self);
-        let most = receipt.tag.stamp.max(guard.stamp());
+        let (stamp, place) = guard.stamp_and_len();
+        let most = receipt.tag.stamp.max(stamp);
         let Some(tag) = tag_after(receipt.tag, most) else {
             return Ok(AtOnce::NotDone);
         };
-        let place = guard.log_len();
-        let room = ReceiptRoom::take(alloc, receipt)?;
+        let room = ReceiptBuffers::take(alloc, receipt)?;
         let share = &mut self.shares[usize::from(chan)];
         let found = guard.commit(rt, share, tag, op);
         share.show();

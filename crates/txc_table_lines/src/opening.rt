@@ -7,7 +7,7 @@ use crate::lines::Lines;
 use crate::seat_shares::SeatShares;
 use std::alloc::{AllocError, Global};
 use txc_chan::{Chan, Log};
-use txc_table_line::{Ledgered, LineLock, SeatShare};
+use txc_table_line::{LineChan, LineLock, SeatShare};
 
 /// Puts a channel as it was made under a lock, and gives each seat its share of the line. Returns the lock, or
 /// `AllocError` if an allocation fails.
@@ -20,11 +20,11 @@ fn add_line<K: Log>(
     requires made { chan.logged ≡ opened chan.logged.decl }
     requires count { length seats.old.items ≡ count }
     ensures decl { IfOk result (λ lock. lock.label.value.line.decl ≡ chan.logged.decl) }
-    ensures books { IfOk result (λ lock. lock.label.value.line.books.seats ≡ count) }
+    ensures ledgers { IfOk result (λ lock. lock.label.value.line.ledgers.seats ≡ count) }
     ensures seats { IfOk result (λ lock. seats.new.items
         ≡ map (λ shares. shares ++ fresh_share lock.label.value.line ∷ []) seats.old.items) }
 {
-    let (mut channel, mut shares) = Ledgered::new(chan, count);
+    let (mut channel, mut shares) = LineChan::new(chan, count);
     for at in 0..seats.len() {
         seats[at].add(SeatShare::new(shares.cut(), &mut channel))?;
     }
@@ -40,7 +40,7 @@ pub fn open<K: Log>(
 ) -> Result<(Lines<K>, Vec<SeatShares<K>>), AllocError>
     requires { All (λ held. held.logged ≡ opened held.logged.decl) chans.items }
     ensures lines { IfOk result (λ made. map (λ line. line.decl) made.0 ≡ map (λ held. held.logged.decl) chans.items) }
-    ensures books { IfOk result (λ made. All (λ line. line.books.seats ≡ count) made.0) }
+    ensures ledgers { IfOk result (λ made. All (λ line. line.ledgers.seats ≡ count) made.0) }
     ensures seats { IfOk result (λ made. made.1.items ≡ replicate count (map fresh_share made.0)) }
 {
     let mut locks = Vec::new(alloc);

@@ -2,7 +2,7 @@
 ghost use Rattle.std.specs.Prelude.{◌≡◌, ◌≤◌, ◌<◌, ◌++◌, ◌∷◌, [], ℕ, length, IfOk, IfErr, OnErr, OnOk};
 ghost use mathlib.Core.List.{IsPrefix};
 ghost use Rattle.txc_table_line.specs.Account.{IsSnapshotOf};
-ghost use Rattle.txc_table_lines.specs.Lines.{AreTrue, OnlyGrew, line_ids, share_at};
+ghost use Rattle.txc_table_lines.specs.Lines.{AreValidShares, OnlyGrew, line_ids, share_at};
 
 use crate::lines::Lines;
 use std::alloc::{AllocError, Global};
@@ -21,13 +21,13 @@ pub struct SeatShares<K: Log> {
 impl<K: Log> Model for SeatShares<K> {
     ghost use Rattle.std.specs.Prelude.{List};
     ghost use Rattle.txc_table_line.specs.SeatShare.{SeatShareView};
-    ghost use Rattle.txc_table_lines.specs.Lines.{AreTrue};
+    ghost use Rattle.txc_table_lines.specs.Lines.{AreValidShares};
 
     ghost Value = { List SeatShareView };
 
     ghost view = { λ all. all.shares.items };
 
-    ghost invariant = { λ all. AreTrue all.shares.items };
+    ghost invariant = { λ all. AreValidShares all.shares.items };
 }
 
 impl<K: Log> SeatShares<K> {
@@ -51,7 +51,7 @@ impl<K: Log> SeatShares<K> {
 
     /// Shows what is true of every share. Does nothing at run time.
     pub fn show(&self)
-        ensures { AreTrue self.now }
+        ensures { AreValidShares self.now }
     {
         // Only for the proof: the read of a field shows the invariant of the type.
         let _ = &self.shares;

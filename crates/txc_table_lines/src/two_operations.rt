@@ -5,10 +5,10 @@ ghost use Rattle.txc_base.specs.declared.item.Item.{Item as Items};
 ghost use Rattle.txc_base.specs.declared.op.Op.TheVariants.{Read, Write};
 ghost use Rattle.txc_base.specs.declared.reply.Reply.TheVariants.{Got};
 ghost use Rattle.txc_base.specs.declared.source.Source.TheVariants.{Last};
-ghost use Rattle.txc_base.specs.Kinds.{suits};
+ghost use Rattle.txc_base.specs.Kinds.{supports};
 ghost use Rattle.txc_base.specs.Op.{chan_of};
 ghost use Rattle.txc_base.specs.Operation.{Waits, operate};
-ghost use Rattle.txc_chan.specs.Committed.{HasNoAct, IsCommittedOp, is_move};
+ghost use Rattle.txc_chan.specs.Committed.{HasNoAct, IsCommittedOp, is_read_or_write};
 ghost use Rattle.txc_chan.specs.Logged.{Left, Logged, op_on};
 ghost use Rattle.txc_table_line.specs.Commit.{CountsOne};
 ghost use Rattle.txc_table_lines.specs.Committed.{IsSettled};
@@ -88,7 +88,7 @@ fn take_item<R: Wait, K: Log>(
     tag: Tag,
     read: &Op,
 ) -> Result<Result<Item, AtOnce>, AllocError>
-    requires suits { suits source.old.held.logged.decl.kind read.now ≡ true }
+    requires supports { supports source.old.held.logged.decl.kind read.now ≡ true }
     ensures taken { IfOk result (λ taken. IfOk taken (λ item.
         op_on source.old.held.logged tag None read.now ≡ Left (Got item) source.new.held.logged)) }
     ensures none { IfOk result (λ taken. IfErr taken (λ ended. (item : Items) (left : Logged)
@@ -112,7 +112,7 @@ fn take_item<R: Wait, K: Log>(
 /// Returns how a transaction ends whose write has no act. It never blocks and does not allocate.
 #[inline(always)]
 fn without_act<K: Log>(target: &mut LineGuard<'_, K>, write: &Op) -> AtOnce
-    requires suits { suits target.old.held.logged.decl.kind write.now ≡ true }
+    requires supports { supports target.old.held.logged.decl.kind write.now ≡ true }
     ensures waits { (seat : _) (cause : Causes) → result ≡ AtOnce.MustRetry cause
         → operate target.old.held.logged.channel seat None write.now ≡ Waits cause }
     ensures left { result ≢ AtOnce.Committed }
@@ -138,10 +138,10 @@ impl<K: Log> SeatShares<K> {
         requires line { target.old.line ≡ (share_at self.old (chan_of write.now)).line }
         requires clean { target.old.held.logged.pending ≡ 0 }
         requires later { target.old.held.logged.stamp < tag.stamp }
-        requires suits { suits target.old.held.logged.decl.kind write.now ≡ true }
+        requires supports { supports target.old.held.logged.decl.kind write.now ≡ true }
         ensures done { IfOk result (λ found. IfSome found (λ act.
             IsCommittedOp tag write.now act target.old.held.logged target.new.held.logged)) }
-        ensures none { is_move write.now ≡ true → IfOk result (λ found. IfNone found
+        ensures none { is_read_or_write write.now ≡ true → IfOk result (λ found. IfNone found
             (HasNoAct (operate target.old.held.logged.channel tag.seat None write.now))) }
         ensures counts { let n = chan_of write.now in IfOk result (λ found. IfSome found (λ act.
             CountsOne target.old.held.logged target.new.held.logged tag (share_at self.old n) (share_at self.new n))) }
@@ -193,8 +193,8 @@ impl<K: Log> SeatShares<K> {
         requires apart { what.from ≢ what.to }
         requires from { what.from < length lines.now }
         requires to { what.to < length lines.now }
-        requires reads { suits (share_at self.old what.from).line.decl.kind (Read what.from what.reader) ≡ true }
-        requires writes { suits (share_at self.old what.to).line.decl.kind (Write what.to Last) ≡ true }
+        requires reads { supports (share_at self.old what.from).line.decl.kind (Read what.from what.reader) ≡ true }
+        requires writes { supports (share_at self.old what.to).line.decl.kind (Write what.to Last) ≡ true }
         ensures done { IfOk result (λ is. is ≡ AtOnce.Committed
             → IsCommittedMove tag what.from what.reader what.to self.old self.new receipt.new) }
         ensures retry { (cause : Causes) → IfOk result (λ is. is ≡ AtOnce.MustRetry cause

@@ -20,18 +20,19 @@ index_at [] i n e = absurd (some-ne-none n (sym e))
 index_at (m ∷ numbers) zero n e = some-injective m n e
 index_at (m ∷ numbers) (suc i) n e = index_at numbers i n e
 
-module _ {X G : Type 0} (fits : X → Type 0) where
+module _ {X G : Type 0} (holds : X → Type 0) where
   -- the word that is written is read
-  written : (s : State X G) (new : ℕ) → IsKept fits s → get_or (set s.words STATE new) STATE 0 ≡ new
+  written : (s : State X G) (new : ℕ) → IsKept holds s → get_or (set s.words STATE new) STATE 0 ≡ new
   written s new kept = get_or-set_same s.words STATE new 0 (omega (arith, kept.words))
 
   -- what a step on the word may leave, by which number it writes
   abbrev Leaves : State X G → ℕ → Me X G → (Me X G → Type 0) → ℕ → Type 0
-  Leaves s id me then new = (w : G) × (a : Act X) × Valid s.homes me.1 a × IsKept fits (stepped s STATE new id me.1 w a)
+  Leaves s id me then new = (w : G) × (a : Act X) × Valid s.homes me.1 a
+      × IsKept holds (stepped s STATE new id me.1 w a)
       × then (w, carried_after me.1 a)
 
   -- a step that takes nothing and puts nothing back may write that the lock is not free
-  marks : (s : State X G) (id new : ℕ) (me : Me X G) (then : Me X G → Type 0) → IsKept fits s → ¬ IsFree new → then me
+  marks : (s : State X G) (id new : ℕ) (me : Me X G) (then : Me X G → Type 0) → IsKept holds s → ¬ IsFree new → then me
       → Leaves s id me then new
   marks s id new me then kept taken is = (
     me.0,
@@ -45,7 +46,7 @@ module _ {X G : Type 0} (fits : X → Type 0) where
   )
 
   -- a step that finds another number leaves all as it is
-  misses : (s : State X G) (id : ℕ) (me : Me X G) (then : Me X G → Type 0) → IsKept fits s → then me
+  misses : (s : State X G) (id : ℕ) (me : Me X G) (then : Me X G → Type 0) → IsKept holds s → then me
       → Leaves s id me then (get_or s.words STATE 0)
   misses s id me then kept is = let n = get_or s.words STATE 0 in (
     me.0,
@@ -60,11 +61,11 @@ module _ {X G : Type 0} (fits : X → Type 0) where
 
   -- a step that finds a free lock takes its value
   pub takes_it : (id free taken : ℕ) (label : G) → IsFree free → ¬ IsFree taken
-      → Allows (IsKept fits) 1 id (label, []) STATE (λ n. either (n == free) taken n)
-      (λ found after. (found ≡ free → HasValue fits after) × (found ≢ free → after ≡ (label, [])))
+      → Allows (IsKept holds) 1 id (label, []) STATE (λ n. either (n == free) taken n)
+      (λ found after. (found ≡ free → HasValue holds after) × (found ≢ free → after ≡ (label, [])))
   takes_it id free taken label is_free is_taken s kept wide at below =
       let n = get_or s.words STATE 0 in
-      let then : Me X G → Type 0 = λ after. (n ≡ free → HasValue fits after) × (n ≢ free → after ≡ (label, [])) in
+      let then : Me X G → Type 0 = λ after. (n ≡ free → HasValue holds after) × (n ≢ free → after ≡ (label, [])) in
       exchanged n free taken (Leaves s id (label, []) then)
       (λ e. let v = kept.home (subst IsFree (sym e) is_free) in (
         label,
@@ -79,8 +80,8 @@ module _ {X G : Type 0} (fits : X → Type 0) where
       (λ ne. misses s id (label, []) then kept (λ e. absurd (ne e), λ _. refl))
 
   -- a step puts the value back
-  gives_it : (s : State X G) (id new : ℕ) (label : G) (value : X) (then : Me X G → Type 0) → IsKept fits s
-      → length s.homes ≡ 1 → fits value → then (label, []) → Leaves s id (label, (0, value) ∷ []) then new
+  gives_it : (s : State X G) (id new : ℕ) (label : G) (value : X) (then : Me X G → Type 0) → IsKept holds s
+      → length s.homes ≡ 1 → holds value → then (label, []) → Leaves s id (label, (0, value) ∷ []) then new
   gives_it s id new label value then kept wide fit is = (
     label,
     gives,
@@ -93,10 +94,11 @@ module _ {X G : Type 0} (fits : X → Type 0) where
   )
 
   -- the value is put back if the number is found that is looked for
-  pub leaves_it : (id taken free : ℕ) (me : Me X G) → HasValue fits me
-      → Allows (IsKept fits) 1 id me STATE (λ n. either (n == taken) free n) (λ found after. found ≢ taken → after ≡ me)
+  pub leaves_it : (id taken free : ℕ) (me : Me X G) → HasValue holds me
+      → Allows (IsKept holds) 1 id me STATE (λ n. either (n == taken) free n)
+      (λ found after. found ≢ taken → after ≡ me)
   leaves_it id taken free me has =
-      subst (λ (x : Me X G). Allows (IsKept fits) 1 id x STATE (λ n. either (n == taken) free n)
+      subst (λ (x : Me X G). Allows (IsKept holds) 1 id x STATE (λ n. either (n == taken) free n)
       (λ found after. found ≢ taken → after ≡ x)) (λ i. (me.0, sym has.1 i))
       (λ s kept wide at below. let n = get_or s.words STATE 0 in let x : Me X G = (me.0, (0, has.0) ∷ []) in
       let then : Me X G → Type 0 = λ after. n ≢ taken → after ≡ x in
@@ -105,15 +107,15 @@ module _ {X G : Type 0} (fits : X → Type 0) where
       (λ ne. misses s id x then kept (λ _. refl)))
 
   -- the value is put back whatever number is found
-  pub hands_over : (id left : ℕ) (me : Me X G) (then : Me X G → Type 0) → HasValue fits me
-      → ((after : Me X G) → then after) → Allows (IsKept fits) 1 id me STATE (λ _. left) (λ _. then)
+  pub hands_over : (id left : ℕ) (me : Me X G) (then : Me X G → Type 0) → HasValue holds me
+      → ((after : Me X G) → then after) → Allows (IsKept holds) 1 id me STATE (λ _. left) (λ _. then)
   hands_over id left me then has all =
-      subst (λ (x : Me X G). Allows (IsKept fits) 1 id x STATE (λ _. left) (λ _. then)) (λ i. (me.0, sym has.1 i))
+      subst (λ (x : Me X G). Allows (IsKept holds) 1 id x STATE (λ _. left) (λ _. then)) (λ i. (me.0, sym has.1 i))
       (λ s kept wide at below. gives_it s id left me.0 has.0 then kept wide has.2 (all (me.0, [])))
 
   -- a seat that has nothing may write that the lock is not free
   pub marks_it : (id seen taken : ℕ) (me : Me X G) → ¬ IsFree taken
-      → Allows (IsKept fits) 1 id me STATE (λ n. either (n == seen) taken n) (λ _ after. after ≡ me)
+      → Allows (IsKept holds) 1 id me STATE (λ n. either (n == seen) taken n) (λ _ after. after ≡ me)
   marks_it id seen taken me is_taken s kept wide at below =
       let n = get_or s.words STATE 0 in
       exchanged n seen taken (Leaves s id me (λ after. after ≡ me))
@@ -121,10 +123,10 @@ module _ {X G : Type 0} (fits : X → Type 0) where
       (λ _. misses s id me (λ after. after ≡ me) kept refl)
 
   -- the value that is left in a free lock fits
-  pub left_fits : (words : List ℕ) (slots : List X) (state : ℕ) (value : X) → Final {V = G} (IsKept fits) words slots
-      → get_elem? words STATE ≡ some state → get_elem? slots 0 ≡ some value → IsFree state → fits value
+  pub left_fits : (words : List ℕ) (slots : List X) (state : ℕ) (value : X) → Final {V = G} (IsKept holds) words slots
+      → get_elem? words STATE ≡ some state → get_elem? slots 0 ≡ some value → IsFree state → holds value
   left_fits words slots state value final at has free =
       let reads : get_or final.0.words STATE 0 ≡ state = index_at final.0.words STATE state
       (subst (λ (w : List ℕ). get_elem? w STATE ≡ some state) (sym final.2) at) in
       let home = final.1.home (subst IsFree (sym reads) free) in
-      subst fits (some-injective home.0 value (sym (final.4 0 home.0 home.1) ∙ has)) home.2
+      subst holds (some-injective home.0 value (sym (final.4 0 home.0 home.1) ∙ has)) home.2

@@ -12,7 +12,7 @@ use Rattle.atomic_table.proofs.shared.Shared.TheSendSync as shared
 use Rattle.atomic_table.proofs.send_lease.SendLease.TheSendSync as lease
 use Rattle.crossbeam_utils.specs.contracts.cache_padded.CachePadded as padded
 use Rattle.txc_table_lock.specs.contracts.lock.Lock as lock
-use Rattle.txc_table_lock.specs.declared.rule.Fits as fits
+use Rattle.txc_table_lock.specs.declared.rule.LockInvariant as holds
 
 -- any thread may share what has cache lines of its own if it may share it without them
 padded_syncs : (T : RattleType) → IsSync T → IsSync (padded.the_field T).row
@@ -42,7 +42,7 @@ cells_sync S V K P g sends =
     )
 
 -- any thread may share a lock whose value may go to any thread
-pub lock_syncs : (X G F : RattleType) (g : fits.Ghosts F.Denot X.Denot G.Denot) → IsSend X
+pub lock_syncs : (X G F : RattleType) (g : holds.Ghosts F.Denot X.Denot G.Denot) → IsSend X
     → IsSync (lock.the_row X G F g)
 lock_syncs X G F g sends =
     view_sync _ _ _ _ _

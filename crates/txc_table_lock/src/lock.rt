@@ -1,7 +1,7 @@
 // A lock with a label.
 ghost use Rattle.std.specs.Prelude.{◌≡◌, IfOk, IfSome};
 
-use crate::rule::{Fits, Rule};
+use crate::rule::{LockInvariant, LockRule};
 use crate::steps::is_free;
 use crate::words::{NEW, STATE};
 use atomic_table::{Refused, Seat, Shared, Table};
@@ -11,16 +11,16 @@ use std::marker::Model;
 use std::sync::{Mutex, Wait};
 
 /// A lock whose value fits a label whenever the lock is free. In a contract it is its label and an identity, which its
-/// loans share. If other data can be next to the value, the value should end with a cache line of unused bytes. The
+/// tokens share. If other data can be next to the value, the value should end with a cache line of unused bytes. The
 /// queue of the threads that wait shares no cache line with other data.
 #[derive(Drop)]
-pub struct Lock<X, G, F: Fits<X, G>> {
-    pub(crate) table: Table<X, G, G, Rule<F>, Global>,
+pub struct Lock<X, G, F: LockInvariant<X, G>> {
+    pub(crate) table: Table<X, G, G, LockRule<F>, Global>,
     // Held by the thread that waits for the lock, until it has the lock.
     pub(crate) queue: CachePadded<Mutex<()>>,
 }
 
-impl<X, G, F: Fits<X, G>> Model for Lock<X, G, F> {
+impl<X, G, F: LockInvariant<X, G>> Model for Lock<X, G, F> {
     ghost use Rattle.std.specs.Prelude.{◌≡◌};
     ghost use Rattle.txc_table_lock.specs.Lock.{LockView};
     ghost use Rattle.txc_table_lock.specs.declared.words.TheConstants.{WORDS};
@@ -34,17 +34,17 @@ impl<X, G, F: Fits<X, G>> Model for Lock<X, G, F> {
 }
 
 /// The right to use the value of a taken lock and to return it with `Lock::unlock`. `seat.slot_mut(lock.shared(), 0)`
-/// lends the value. A loan has no bytes and cannot be dropped.
-pub struct Loan<X, G> {
+/// lends the value. A token has no bytes and cannot be dropped.
+pub struct LockToken<X, G> {
     /// The seat of the lock's table that has the value.
     pub seat: Seat<X, G>,
 }
 
-impl<X: Drop, G, F: Fits<X, G>> Lock<X, G, F> {
+impl<X: Drop, G, F: LockInvariant<X, G>> Lock<X, G, F> {
     /// Makes a free lock of a value that fits the label. Fails with `AllocError` if allocation fails, and then drops
     /// the value.
     pub fn new(alloc: Global, value: X, label: &G) -> Result<Lock<X, G, F>, AllocError>
-        requires fits { F.fits label.now value }
+        requires holds { F.holds label.now value }
         ensures label { IfOk result (λ lock. lock.label ≡ label.now) }
     {
         let mut slots = Vec::with_capacity(alloc, 1)?;
@@ -58,8 +58,8 @@ impl<X: Drop, G, F: Fits<X, G>> Lock<X, G, F> {
         }
     }
 
-    /// Returns the argument of `Seat::slot_mut` that lends the value of a loan.
-    pub fn shared(&self) -> &Shared<X, G, G, Rule<F>>
+    /// Returns the argument of `Seat::slot_mut` that lends the value of a token.
+    pub fn shared(&self) -> &Shared<X, G, G, LockRule<F>>
         ensures { result.now.table_id ≡ self.now.id }
     {
         &self.table.shared
@@ -67,7 +67,7 @@ impl<X: Drop, G, F: Fits<X, G>> Lock<X, G, F> {
 
     // Returns the value, or `None` if the lock is taken.
     fn try_into_inner(self) -> Option<X>
-        ensures { IfSome result (F.fits self.label) }
+        ensures { IfSome result (F.holds self.label) }
     {
         let Lock { table, queue: _ } = self;
         let mut closed = table.close();
@@ -81,9 +81,9 @@ impl<X: Drop, G, F: Fits<X, G>> Lock<X, G, F> {
         None
     }
 
-    /// Returns the value. Blocks for ever if the lock is taken, since its loan was not returned.
+    /// Returns the value. Blocks for ever if the lock is taken, since its token was not returned.
     pub fn into_inner<R: Wait>(self, rt: &R) -> X
-        ensures fits { F.fits self.label result }
+        ensures holds { F.holds self.label result }
     {
         if let Some(value) = self.try_into_inner() {
             return value;

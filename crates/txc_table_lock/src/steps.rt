@@ -2,30 +2,30 @@
 ghost use Rattle.std.specs.Prelude.{◌≡◌, IfSome, IsFalse, IsTrue};
 ghost use Rattle.txc_table_lock.specs.Lock.{HasValue, IsFree};
 
-use crate::lock::{Loan, Lock};
-use crate::rule::{Fits, Leave, Look, Take};
-use crate::words::{FREE, LEFT, STATE, STILL, TAKEN};
+use crate::lock::{Lock, LockToken};
+use crate::rule::{Acquire, LockInvariant, Observe, Release};
+use crate::words::{FREE, RESERVED, STATE, STILL, TAKEN};
 use atomic_table::Seat;
 
 /// Returns whether a lock with this word is free.
 pub(crate) fn is_free(state: u64) -> bool
     ensures { IsTrue result → IsFree state }
 {
-    state == FREE || state == LEFT
+    state == FREE || state == RESERVED
 }
 
-impl<X: Drop, G, F: Fits<X, G>> Lock<X, G, F> {
+impl<X: Drop, G, F: LockInvariant<X, G>> Lock<X, G, F> {
     /// Takes the lock if its word is `free`, and returns the value. Returns `None` otherwise.
-    pub(crate) fn try_take(&self, free: u64) -> Option<Loan<X, G>>
+    pub(crate) fn try_take(&self, free: u64) -> Option<LockToken<X, G>>
         requires { IsFree free }
-        ensures of { IfSome result (λ loan. loan.seat.table_id ≡ self.now.id) }
-        ensures has { IfSome result (λ loan. HasValue (F.fits self.now.label) loan.seat.me) }
+        ensures of { IfSome result (λ token. token.seat.table_id ≡ self.now.id) }
+        ensures has { IfSome result (λ token. HasValue (F.holds self.now.label) token.seat.me) }
     {
         let shared = &self.table.shared;
-        let (_, mut seat) = shared.load_new_seat::<Look>(STILL);
-        let found = shared.compare_exchange::<Take<F>>(&mut seat, STATE, free, TAKEN);
+        let (_, mut seat) = shared.load_new_seat::<Observe>(STILL);
+        let found = shared.compare_exchange::<Acquire<F>>(&mut seat, STATE, free, TAKEN);
         if found == free {
-            return Some(Loan { seat });
+            return Some(LockToken { seat });
         }
         None
     }
@@ -34,23 +34,23 @@ impl<X: Drop, G, F: Fits<X, G>> Lock<X, G, F> {
     /// whether the word was `taken`.
     pub(crate) fn leave(&self, seat: &mut Seat<X, G>, taken: u64) -> bool
         requires of { seat.old.table_id ≡ self.now.id }
-        requires has { HasValue (F.fits self.now.label) seat.old.me }
+        requires has { HasValue (F.holds self.now.label) seat.old.me }
         ensures of { seat.new.table_id ≡ self.now.id }
-        ensures has { IsFalse result → HasValue (F.fits self.now.label) seat.new.me }
+        ensures has { IsFalse result → HasValue (F.holds self.now.label) seat.new.me }
     {
         let found = self
             .table
             .shared
-            .compare_exchange::<Leave>(seat, STATE, taken, FREE);
+            .compare_exchange::<Release>(seat, STATE, taken, FREE);
         found == taken
     }
 
     /// Returns the value to the lock and reserves the lock for the thread that has claimed it.
     pub(crate) fn hand_over(&self, seat: &mut Seat<X, G>)
         requires of { seat.old.table_id ≡ self.now.id }
-        requires has { HasValue (F.fits self.now.label) seat.old.me }
+        requires has { HasValue (F.holds self.now.label) seat.old.me }
     {
-        self.table.shared.store::<Leave>(seat, STATE, LEFT);
+        self.table.shared.store::<Release>(seat, STATE, RESERVED);
     }
 
     /// Writes `taken` if the word is `seen`. Returns whether it did.
@@ -58,8 +58,8 @@ impl<X: Drop, G, F: Fits<X, G>> Lock<X, G, F> {
         requires { ¬ IsFree taken }
     {
         let shared = &self.table.shared;
-        let (_, mut seat) = shared.load_new_seat::<Look>(STILL);
-        let found = shared.compare_exchange::<Look>(&mut seat, STATE, seen, taken);
+        let (_, mut seat) = shared.load_new_seat::<Observe>(STILL);
+        let found = shared.compare_exchange::<Observe>(&mut seat, STATE, seen, taken);
         found == seen
     }
 }

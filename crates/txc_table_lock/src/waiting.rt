@@ -2,8 +2,8 @@
 ghost use Rattle.std.specs.Prelude.{◌≡◌, IfSome};
 ghost use Rattle.txc_table_lock.specs.Lock.{HasValue};
 
-use crate::lock::{Loan, Lock};
-use crate::rule::Fits;
+use crate::lock::{Lock, LockToken};
+use crate::rule::LockInvariant;
 use crate::steps::is_free;
 use crate::words::{AWAITED, CLAIMED, FREE, STATE, TAKEN};
 use atomic_table::Seat;
@@ -11,34 +11,34 @@ use std::hint::spin_loop;
 use std::sync::Wait;
 
 /// The maximum number of pauses between two tries.
-const MOST_PAUSES: u32 = 64;
+const MAX_PAUSES: u32 = 64;
 
 /// How often a thread reads the word of a taken lock before it sleeps.
 const LOOKS: u32 = 100;
 
 /// How often a thread sleeps before it claims the lock.
-const MOST_SLEEPS: u32 = 2;
+const MAX_SLEEPS: u32 = 2;
 
-impl<X: Drop, G, F: Fits<X, G>> Lock<X, G, F> {
+impl<X: Drop, G, F: LockInvariant<X, G>> Lock<X, G, F> {
     /// Takes the lock and returns its value. If the lock is taken, the thread looks again `tries` times, with pauses
     /// that get longer. Then it blocks: it waits for its turn in the lock's queue, and only the first thread of the
     /// queue waits for the lock. A thread that already has the lock blocks for ever.
-    pub fn lock<R: Wait>(&self, rt: &R, tries: u32) -> Loan<X, G>
+    pub fn lock<R: Wait>(&self, rt: &R, tries: u32) -> LockToken<X, G>
         ensures of { result.seat.table_id ≡ self.now.id }
-        ensures has { HasValue (F.fits self.now.label) result.seat.me }
+        ensures has { HasValue (F.holds self.now.label) result.seat.me }
     {
-        if let Some(loan) = self.try_take(FREE) {
-            return loan;
+        if let Some(token) = self.try_take(FREE) {
+            return token;
         }
         self.wait(rt, tries)
     }
 
     /// Returns the value to the lock and releases the lock. Wakes a thread that sleeps until the lock is free.
-    pub fn unlock(&self, loan: Loan<X, G>)
-        requires of { loan.seat.table_id ≡ self.now.id }
-        requires has { HasValue (F.fits self.now.label) loan.seat.me }
+    pub fn unlock(&self, token: LockToken<X, G>)
+        requires of { token.seat.table_id ≡ self.now.id }
+        requires has { HasValue (F.holds self.now.label) token.seat.me }
     {
-        let Loan { mut seat } = loan;
+        let LockToken { mut seat } = token;
         if !self.leave(&mut seat, TAKEN) {
             self.wake(&mut seat);
         }
@@ -50,7 +50,7 @@ impl<X: Drop, G, F: Fits<X, G>> Lock<X, G, F> {
     #[inline(never)]
     fn wake(&self, seat: &mut Seat<X, G>)
         requires of { seat.old.table_id ≡ self.now.id }
-        requires has { HasValue (F.fits self.now.label) seat.old.me }
+        requires has { HasValue (F.holds self.now.label) seat.old.me }
     {
         if !self.leave(seat, AWAITED) {
             self.hand_over(seat);
@@ -61,24 +61,24 @@ impl<X: Drop, G, F: Fits<X, G>> Lock<X, G, F> {
     // Waits for the lock, and takes it.
     #[cold]
     #[inline(never)]
-    fn wait<R: Wait>(&self, rt: &R, tries: u32) -> Loan<X, G>
+    fn wait<R: Wait>(&self, rt: &R, tries: u32) -> LockToken<X, G>
         ensures of { result.seat.table_id ≡ self.now.id }
-        ensures has { HasValue (F.fits self.now.label) result.seat.me }
+        ensures has { HasValue (F.holds self.now.label) result.seat.me }
     {
-        if let Some(loan) = self.try_again(tries) {
-            return loan;
+        if let Some(token) = self.try_again(tries) {
+            return token;
         }
         let turn = self.queue.lock(rt);
-        let loan = self.wait_in_turn(rt);
+        let token = self.wait_in_turn(rt);
         drop(turn);
-        loan
+        token
     }
 
     // Takes the lock if it is free at one of `tries` looks. Before each look there are pauses, which get longer.
     // Returns `None` if each look found the lock taken.
-    fn try_again(&self, tries: u32) -> Option<Loan<X, G>>
-        ensures of { IfSome result (λ loan. loan.seat.table_id ≡ self.now.id) }
-        ensures has { IfSome result (λ loan. HasValue (F.fits self.now.label) loan.seat.me) }
+    fn try_again(&self, tries: u32) -> Option<LockToken<X, G>>
+        ensures of { IfSome result (λ token. token.seat.table_id ≡ self.now.id) }
+        ensures has { IfSome result (λ token. HasValue (F.holds self.now.label) token.seat.me) }
     {
         let mut pauses = 1u32;
         for _ in 0..tries {
@@ -87,11 +87,11 @@ impl<X: Drop, G, F: Fits<X, G>> Lock<X, G, F> {
             }
             // A try takes the word's cache line from the thread that has the lock. A look does not.
             if self.table.shared.peek(STATE) == FREE {
-                if let Some(loan) = self.try_take(FREE) {
-                    return Some(loan);
+                if let Some(token) = self.try_take(FREE) {
+                    return Some(token);
                 }
             }
-            pauses = pauses.saturating_mul(2).min(MOST_PAUSES);
+            pauses = pauses.saturating_mul(2).min(MAX_PAUSES);
         }
         None
     }
@@ -99,18 +99,18 @@ impl<X: Drop, G, F: Fits<X, G>> Lock<X, G, F> {
     // Takes the lock as the first thread of the queue. No other thread sleeps at the lock meanwhile, so the thread that
     // takes the lock writes `TAKEN`. Other threads can take the lock before a woken thread does. After some sleeps this
     // thread claims the lock, which is then reserved for it.
-    fn wait_in_turn<R: Wait>(&self, rt: &R) -> Loan<X, G>
+    fn wait_in_turn<R: Wait>(&self, rt: &R) -> LockToken<X, G>
         ensures of { result.seat.table_id ≡ self.now.id }
-        ensures has { HasValue (F.fits self.now.label) result.seat.me }
+        ensures has { HasValue (F.holds self.now.label) result.seat.me }
     {
         let mut sleeps = 0u32;
         for _ in rt.forever() {
             let seen = self.look();
             if is_free(seen) {
-                if let Some(loan) = self.try_take(seen) {
-                    return loan;
+                if let Some(token) = self.try_take(seen) {
+                    return token;
                 }
-            } else if self.sleep(rt, seen, sleeps >= MOST_SLEEPS) {
+            } else if self.sleep(rt, seen, sleeps >= MAX_SLEEPS) {
                 sleeps = sleeps.saturating_add(1);
             }
         }

@@ -19,7 +19,7 @@ pub(crate) const NEW: [u64; WORDS] = [0, 0, 0, 0, 0, 0, 0, 0, 0, 0, 0, 0, 0, 0, 
 pub(crate) const FREE: u64 = 1;
 
 /// The lock is reserved for the thread that has claimed it.
-pub(crate) const LEFT: u64 = 4;
+pub(crate) const RESERVED: u64 = 4;
 
 /// The lock is taken, and no thread sleeps.
 pub(crate) const TAKEN: u64 = 0;

@@ -3,7 +3,7 @@ ghost use Rattle.std.specs.Prelude.{◌≡◌};
 
 use std::marker::Model;
 use std::sync::Wait;
-use txc_table_lock::{Fits, Loan, Lock};
+use txc_table_lock::{Lock, LockInvariant, LockToken};
 
 /// A number that grows by the same step each time.
 #[derive(Drop)]
@@ -17,16 +17,16 @@ pub struct Counter {
 /// A counter fits the label that is its step.
 pub struct HasStep;
 
-impl Fits<Counter, u64> for HasStep {
+impl LockInvariant<Counter, u64> for HasStep {
     ghost use Rattle.std.specs.Prelude.{◌≡◌};
 
-    ghost fits = { λ step counter. counter.step ≡ step };
+    ghost holds = { λ step counter. counter.step ≡ step };
 }
 
 /// A counter whose lock is taken. The lock is free again when this is dropped. In a contract it is the counter's step.
 pub struct Guard<'a> {
     lock: &'a Lock<Counter, u64, HasStep>,
-    loan: Loan<Counter, u64>,
+    token: LockToken<Counter, u64>,
 }
 
 impl<'a> Model for Guard<'a> {
@@ -37,8 +37,8 @@ impl<'a> Model for Guard<'a> {
 
     ghost view = { λ guard. guard.lock.now.label };
 
-    ghost invariant = { λ guard. (guard.loan.seat.table_id ≡ guard.lock.now.id)
-        × HasValue (λ counter. counter.step ≡ guard.lock.now.label) guard.loan.seat.me };
+    ghost invariant = { λ guard. (guard.token.seat.table_id ≡ guard.lock.now.id)
+        × HasValue (λ counter. counter.step ≡ guard.lock.now.label) guard.token.seat.me };
 }
 
 impl<'a> Guard<'a> {
@@ -46,8 +46,8 @@ impl<'a> Guard<'a> {
     pub fn take<R: Wait>(rt: &R, lock: &'a Lock<Counter, u64, HasStep>, tries: u32) -> Guard<'a>
         ensures { result ≡ lock.now.label }
     {
-        let loan = lock.lock(rt, tries);
-        Guard { lock, loan }
+        let token = lock.lock(rt, tries);
+        Guard { lock, token }
     }
 
     /// Adds the step to the number, and returns the step. It never blocks and does not allocate.
@@ -55,7 +55,7 @@ impl<'a> Guard<'a> {
         ensures step { result ≡ self.old }
         ensures same { self.new ≡ self.old }
     {
-        let counter = self.loan.seat.slot_mut(self.lock.shared(), 0);
+        let counter = self.token.seat.slot_mut(self.lock.shared(), 0);
         counter.count = counter.count.wrapping_add(counter.step);
         counter.step
     }
@@ -63,7 +63,7 @@ impl<'a> Guard<'a> {
 
 impl Drop for Guard<'_> {
     fn drop(self) {
-        let Guard { lock, loan } = self;
-        lock.unlock(loan);
+        let Guard { lock, token } = self;
+        lock.unlock(token);
     }
 }

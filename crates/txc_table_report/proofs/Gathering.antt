@@ -9,10 +9,11 @@ use Rattle.txc_txn.specs.declared.deed.Deed.{Deed}
 use Rattle.txc_txn.specs.declared.receipt.Receipt.{Receipt}
 use Rattle.txc_chan.specs.Reserved.{one_if}
 use Rattle.txc_txn.specs.Run.{count_deeds}
-use Rattle.txc_table_seat.specs.Seated.{IsOwn, count}
-use Rattle.txc_txn.specs.InLog.{Logs, ActsStand}
-use Rattle.txc_table_report.specs.Gathered.{ReceiptsStand, SeatsStand, acts_at, receipts_at, claims_at, count_all}
-use Rattle.txc_table_report.specs.Gathered.{AreOwn}
+use Rattle.txc_table_seat.specs.Seated.{AreReceiptsOf, count}
+use Rattle.txc_txn.specs.InLog.{Logs, ActsAreInLog}
+use Rattle.txc_table_report.specs.Gathered.{ReceiptsAreInLogs, SeatsAreInLogs, acts_at, receipts_at, claims_at}
+use Rattle.txc_table_report.specs.Gathered.{count_all}
+use Rattle.txc_table_report.specs.Gathered.{AreReceiptsOfAll}
 use Rattle.txc_table_report.specs.Gathered.{IsGathered}
 
 -- the sum of a function's first values
@@ -71,7 +72,7 @@ pub one_act : (b : Bool) (q n : ℕ) → (b ≡ true → q < n) → total_of (λ
 one_act true q n l = total_one q n (l refl)
 one_act false q n l = total_none (λ p. 0) n (λ p k. refl)
 
-acts_total : (logs : Logs) (tag : Tag) (chan : ℕ) (deeds : List Deed) → ActsStand logs tag deeds
+acts_total : (logs : Logs) (tag : Tag) (chan : ℕ) (deeds : List Deed) → ActsAreInLog logs tag deeds
     → total_of (λ p. acts_at chan p deeds) (length (logs chan)) ≡ count_deeds chan deeds
 acts_total logs tag chan [] stand = total_none (λ p. 0) (length (logs chan)) (λ p k. refl)
 acts_total logs tag chan (d ∷ ds) stand =
@@ -84,7 +85,7 @@ acts_total logs tag chan (d ∷ ds) stand =
     (one_act (nat_eq d.chan chan) d.place (length (logs chan)) below)
     (acts_total logs tag chan ds (λ i deed h. stand (suc i) deed h))
 
-receipts_total : (logs : Logs) (chan : ℕ) (receipts : List Receipt) → ReceiptsStand logs receipts
+receipts_total : (logs : Logs) (chan : ℕ) (receipts : List Receipt) → ReceiptsAreInLogs logs receipts
     → total_of (λ p. receipts_at chan p receipts) (length (logs chan)) ≡ count chan receipts
 receipts_total logs chan [] stand = total_none (λ p. 0) (length (logs chan)) (λ p k. refl)
 receipts_total logs chan (r ∷ rs) stand =
@@ -92,7 +93,7 @@ receipts_total logs chan (r ∷ rs) stand =
     (acts_total logs r.tag chan r.acts (stand 0 r refl))
     (receipts_total logs chan rs (λ n receipt h. stand (suc n) receipt h))
 
-seats_total : (logs : Logs) (chan : ℕ) (seats : List (List Receipt)) → SeatsStand logs seats
+seats_total : (logs : Logs) (chan : ℕ) (seats : List (List Receipt)) → SeatsAreInLogs logs seats
     → total_of (λ p. claims_at chan p seats) (length (logs chan)) ≡ count_all chan seats
 seats_total logs chan [] stand = total_none (λ p. 0) (length (logs chan)) (λ p k. refl)
 seats_total logs chan (rs ∷ seats) stand =
@@ -149,7 +150,7 @@ acts_once chan place (d ∷ ds) rise =
 
 -- acts of another tag are not at the place of an entry
 acts_other : (logs : Logs) (chan place : ℕ) (entry : Entry) → slice_get (logs chan) place ≡ Some entry
-    → (tag : Tag) (deeds : List Deed) → ActsStand logs tag deeds
+    → (tag : Tag) (deeds : List Deed) → ActsAreInLog logs tag deeds
     → tag ≢ entry.tag → acts_at chan place deeds ≡ 0
 acts_other logs chan place entry here tag deeds stand ne =
     acts_none chan place deeds (λ i deed h is at.
@@ -161,7 +162,7 @@ acts_other logs chan place entry here tag deeds stand ne =
 -- nor are those of later receipts
 receipts_later : (logs : Logs) (chan place : ℕ) (entry : Entry) → slice_get (logs chan) place ≡ Some entry
     → (seat serial : ℕ) (receipts : List Receipt)
-    → IsOwn seat serial receipts → ReceiptsStand logs receipts → entry.tag.serial < serial
+    → AreReceiptsOf seat serial receipts → ReceiptsAreInLogs logs receipts → entry.tag.serial < serial
     → receipts_at chan place receipts ≡ 0
 receipts_later logs chan place entry here seat serial [] own stand l = refl
 receipts_later logs chan place entry here seat serial (r ∷ rs) own stand l =
@@ -174,7 +175,7 @@ receipts_later logs chan place entry here seat serial (r ∷ rs) own stand l =
 -- nor are those of another seat
 receipts_other : (logs : Logs) (chan place : ℕ) (entry : Entry) → slice_get (logs chan) place ≡ Some entry
     → (seat serial : ℕ) (receipts : List Receipt)
-    → IsOwn seat serial receipts → ReceiptsStand logs receipts → entry.tag.seat ≢ seat
+    → AreReceiptsOf seat serial receipts → ReceiptsAreInLogs logs receipts → entry.tag.seat ≢ seat
     → receipts_at chan place receipts ≡ 0
 receipts_other logs chan place entry here seat serial [] own stand ne = refl
 receipts_other logs chan place entry here seat serial (r ∷ rs) own stand ne =
@@ -186,7 +187,7 @@ receipts_other logs chan place entry here seat serial (r ∷ rs) own stand ne =
 
 receipts_once : (logs : Logs) (chan place : ℕ) (entry : Entry) → slice_get (logs chan) place ≡ Some entry
     → (seat serial : ℕ) (receipts : List Receipt)
-    → IsOwn seat serial receipts → ReceiptsStand logs receipts → receipts_at chan place receipts ≤ 1
+    → AreReceiptsOf seat serial receipts → ReceiptsAreInLogs logs receipts → receipts_at chan place receipts ≤ 1
 receipts_once logs chan place entry here seat serial [] own stand = omega arith
 receipts_once logs chan place entry here seat serial (r ∷ rs) own stand =
     elim (eqb_tells entry.tag.serial serial) [
@@ -205,7 +206,7 @@ receipts_once logs chan place entry here seat serial (r ∷ rs) own stand =
 
 seats_later : (logs : Logs) (chan place : ℕ) (entry : Entry) → slice_get (logs chan) place ≡ Some entry
     → (seat : ℕ) (seats : List (List Receipt))
-    → AreOwn seat seats → SeatsStand logs seats → entry.tag.seat < seat → claims_at chan place seats ≡ 0
+    → AreReceiptsOfAll seat seats → SeatsAreInLogs logs seats → entry.tag.seat < seat → claims_at chan place seats ≡ 0
 seats_later logs chan place entry here seat [] own stand l = refl
 seats_later logs chan place entry here seat (rs ∷ seats) own stand l =
     let head = receipts_other logs chan place entry here seat 0 rs own.0 (stand 0 rs refl) (λ e. omega (arith, e, l)) in
@@ -215,7 +216,7 @@ seats_later logs chan place entry here seat (rs ∷ seats) own stand l =
 
 seats_once : (logs : Logs) (chan place : ℕ) (entry : Entry) → slice_get (logs chan) place ≡ Some entry
     → (seat : ℕ) (seats : List (List Receipt))
-    → AreOwn seat seats → SeatsStand logs seats → claims_at chan place seats ≤ 1
+    → AreReceiptsOfAll seat seats → SeatsAreInLogs logs seats → claims_at chan place seats ≤ 1
 seats_once logs chan place entry here seat [] own stand = omega arith
 seats_once logs chan place entry here seat (rs ∷ seats) own stand =
     elim (eqb_tells entry.tag.seat seat) [
@@ -232,7 +233,7 @@ seats_once logs chan place entry here seat (rs ∷ seats) own stand =
     ]
 
 -- where every act stands, and each log is as long as the seats have acts in it, all is gathered
-pub gathered : (logs : Logs) (seats : List (List Receipt)) → AreOwn 0 seats → SeatsStand logs seats
+pub gathered : (logs : Logs) (seats : List (List Receipt)) → AreReceiptsOfAll 0 seats → SeatsAreInLogs logs seats
     → ((chan : ℕ) → length (logs chan) ≡ count_all chan seats) → IsGathered logs seats
 gathered logs seats own stand long = record {
   stands = stand;
@@ -243,7 +244,8 @@ gathered logs seats own stand long = record {
 }
 
 -- where there is no log, there are no acts
-pub none_there : (logs : Logs) (chan : ℕ) (seats : List (List Receipt)) → SeatsStand logs seats → length (logs chan) ≡ 0
+pub none_there : (logs : Logs) (chan : ℕ) (seats : List (List Receipt)) → SeatsAreInLogs logs seats → length (logs chan)
+    ≡ 0
     → length (logs chan) ≡ count_all chan seats
 none_there logs chan seats stand none =
     let total : total_of (λ p. claims_at chan p seats) (length (logs chan)) ≡ total_of (λ p. claims_at chan p seats) 0 =

@@ -2,14 +2,14 @@
 use Rattle.std.proofs.Common.{◌≡◌, sym, ◌∙◌, ap, subst, inl, inr, ℕ, Some, List, [], ◌∷◌, ◌++◌, slice_get}
 use mathlib.Core.List.{IsPrefix}
 use Rattle.txc_txn.specs.declared.receipt.Receipt.{Receipt}
-use Rattle.txc_txn.specs.InLog.{Logs, ReceiptStands}
+use Rattle.txc_txn.specs.InLog.{Logs, ReceiptIsInLog}
 use Rattle.txc_txn.proofs.Placing.{get_front}
 use Rattle.txc_table_line.proofs.Listing.{get_push}
-use Rattle.txc_table_report.specs.Gathered.{ReceiptsStand, SeatsStand}
+use Rattle.txc_table_report.specs.Gathered.{ReceiptsAreInLogs, SeatsAreInLogs}
 
 -- what stands in logs stands in those that they have grown to
 stand_since : (logs after : Logs) → ((chan : ℕ) → IsPrefix (logs chan) (after chan)) → (receipt : Receipt)
-    → ReceiptStands logs receipt → ReceiptStands after receipt
+    → ReceiptIsInLog logs receipt → ReceiptIsInLog after receipt
 stand_since logs after since receipt stand i deed here =
     let more = since deed.chan in
     ap (λ log. slice_get log deed.place) (sym more.1)
@@ -17,7 +17,7 @@ stand_since logs after since receipt stand i deed here =
 
 -- .. of each receipt
 pub all_since : (logs after : Logs) → ((chan : ℕ) → IsPrefix (logs chan) (after chan)) → (receipts : List Receipt)
-    → ReceiptsStand logs receipts → ReceiptsStand after receipts
+    → ReceiptsAreInLogs logs receipts → ReceiptsAreInLogs after receipts
 all_since logs after since receipts stand n receipt here = stand_since logs after since receipt (stand n receipt here)
 
 -- what is true of each of a list, and of one more at its end
@@ -32,12 +32,12 @@ each_push Fact xs xs' x push each one n y here =
 
 -- one receipt more
 pub stand_more : (logs : Logs) (receipts receipts' : List Receipt) (receipt : Receipt)
-    → receipts' ≡ receipts ++ receipt ∷ [] → ReceiptsStand logs receipts → ReceiptStands logs receipt
-    → ReceiptsStand logs receipts'
-stand_more logs = each_push (ReceiptStands logs)
+    → receipts' ≡ receipts ++ receipt ∷ [] → ReceiptsAreInLogs logs receipts → ReceiptIsInLog logs receipt
+    → ReceiptsAreInLogs logs receipts'
+stand_more logs = each_push (ReceiptIsInLog logs)
 
 -- .. and the receipts of one seat more
 pub seats_more : (logs : Logs) (seats seats' : List (List Receipt)) (receipts : List Receipt)
-    → seats' ≡ seats ++ receipts ∷ [] → SeatsStand logs seats → ReceiptsStand logs receipts
-    → SeatsStand logs seats'
-seats_more logs = each_push (ReceiptsStand logs)
+    → seats' ≡ seats ++ receipts ∷ [] → SeatsAreInLogs logs seats → ReceiptsAreInLogs logs receipts
+    → SeatsAreInLogs logs seats'
+seats_more logs = each_push (ReceiptsAreInLogs logs)

@@ -13,7 +13,7 @@ use Rattle.txc_base.specs.declared.origin.Origin.{Origin}
 use Rattle.txc_base.specs.declared.origin.Origin.TheVariants.{Written, Back}
 use Rattle.txc_base.specs.declared.tag.Tag.{Tag}
 use Rattle.txc_base.specs.Counts.{is_put, is_took, is_other}
-use Rattle.txc_base.specs.Fair.{taken, taken_by}
+use Rattle.txc_base.specs.InOrder.{taken, taken_by}
 use Rattle.txc_base.specs.Log.{origin_eq}
 use Rattle.txc_base.specs.Once.{IsOnce, times}
 use Rattle.txc_chan.specs.declared.account.Account.{Account}
@@ -22,9 +22,10 @@ use Rattle.txc_txn.specs.declared.deed.Deed.{Deed}
 use Rattle.txc_txn.specs.declared.receipt.Receipt.{Receipt}
 use Rattle.txc_chan.specs.Reserved.{one_if}
 use Rattle.txc_table_report.specs.Finished.{IsReport}
-use Rattle.txc_table_seat.specs.Seated.{Sitting}
-use Rattle.txc_txn.specs.InLog.{Logs, ActsStand}
-use Rattle.txc_table_report.specs.Gathered.{ReceiptsStand, SeatsStand, acts_at, receipts_at, claims_at, IsGathered}
+use Rattle.txc_table_seat.specs.Seated.{SeatCommits}
+use Rattle.txc_txn.specs.InLog.{Logs, ActsAreInLog}
+use Rattle.txc_table_report.specs.Gathered.{ReceiptsAreInLogs, SeatsAreInLogs, acts_at, receipts_at, claims_at}
+use Rattle.txc_table_report.specs.Gathered.{IsGathered}
 use Rattle.txc_table_report.specs.Gathered.{logs_of}
 use Rattle.txc_table_report.specs.Gathered.{log_in}
 use Rattle.txc_table_seat.specs.Tally.{acts_that, count_that}
@@ -47,7 +48,7 @@ seats_that test chan place [] = 0
 seats_that test chan place (rs ∷ seats) = receipts_that test chan place rs + seats_that test chan place seats
 
 -- over all places they are all
-deeds_sum : (test : Act → Bool) (logs : Logs) (tag : Tag) (chan : ℕ) (deeds : List Deed) → ActsStand logs tag deeds
+deeds_sum : (test : Act → Bool) (logs : Logs) (tag : Tag) (chan : ℕ) (deeds : List Deed) → ActsAreInLog logs tag deeds
     → total_of (λ p. deeds_that test chan p deeds) (length (logs chan)) ≡ acts_that test chan deeds
 deeds_sum test logs tag chan [] stand = total_none (λ p. 0) (length (logs chan)) (λ p k. refl)
 deeds_sum test logs tag chan (d ∷ ds) stand =
@@ -61,7 +62,7 @@ deeds_sum test logs tag chan (d ∷ ds) stand =
     (one_act (nat_eq d.chan chan && test d.act) d.place (length (logs chan)) below)
     (deeds_sum test logs tag chan ds (λ i deed h. stand (suc i) deed h))
 
-receipts_sum : (test : Act → Bool) (logs : Logs) (chan : ℕ) (receipts : List Receipt) → ReceiptsStand logs receipts
+receipts_sum : (test : Act → Bool) (logs : Logs) (chan : ℕ) (receipts : List Receipt) → ReceiptsAreInLogs logs receipts
     → total_of (λ p. receipts_that test chan p receipts) (length (logs chan)) ≡ count_that test chan receipts
 receipts_sum test logs chan [] stand = total_none (λ p. 0) (length (logs chan)) (λ p k. refl)
 receipts_sum test logs chan (r ∷ rs) stand =
@@ -69,7 +70,7 @@ receipts_sum test logs chan (r ∷ rs) stand =
     (deeds_sum test logs r.tag chan r.acts (stand 0 r refl))
     (receipts_sum test logs chan rs (λ n receipt h. stand (suc n) receipt h))
 
-seats_sum : (test : Act → Bool) (logs : Logs) (chan : ℕ) (seats : List (List Receipt)) → SeatsStand logs seats
+seats_sum : (test : Act → Bool) (logs : Logs) (chan : ℕ) (seats : List (List Receipt)) → SeatsAreInLogs logs seats
     → total_of (λ p. seats_that test chan p seats) (length (logs chan)) ≡ all_that test chan seats
 seats_sum test logs chan [] stand = total_none (λ p. 0) (length (logs chan)) (λ p k. refl)
 seats_sum test logs chan (rs ∷ seats) stand =
@@ -110,7 +111,8 @@ step_place x y z b ez =
 -- at the place of an entry an act that stands there passes the test where the entry does
 deeds_keep : (test : Act → Bool) (logs : Logs) (chan place : ℕ) (entry : Entry)
     → slice_get (logs chan) place ≡ Some entry → (tag : Tag) (deeds : List Deed)
-    → ActsStand logs tag deeds → deeds_that test chan place deeds ≡ cond (test entry.act) (acts_at chan place deeds) 0
+    → ActsAreInLog logs tag deeds → deeds_that test chan place deeds
+    ≡ cond (test entry.act) (acts_at chan place deeds) 0
 deeds_keep test logs chan place entry here tag [] stand = none (test entry.act)
 deeds_keep test logs chan place entry here tag (d ∷ ds) stand =
     let rest = deeds_keep test logs chan place entry here tag ds (λ i deed h. stand (suc i) deed h) in
@@ -135,7 +137,7 @@ deeds_keep test logs chan place entry here tag (d ∷ ds) stand =
 
 receipts_keep : (test : Act → Bool) (logs : Logs) (chan place : ℕ) (entry : Entry)
     → slice_get (logs chan) place ≡ Some entry → (receipts : List Receipt)
-    → ReceiptsStand logs receipts
+    → ReceiptsAreInLogs logs receipts
     → receipts_that test chan place receipts ≡ cond (test entry.act) (receipts_at chan place receipts) 0
 receipts_keep test logs chan place entry here [] stand = none (test entry.act)
 receipts_keep test logs chan place entry here (r ∷ rs) stand =
@@ -147,7 +149,8 @@ receipts_keep test logs chan place entry here (r ∷ rs) stand =
 
 seats_keep : (test : Act → Bool) (logs : Logs) (chan place : ℕ) (entry : Entry)
     → slice_get (logs chan) place ≡ Some entry → (seats : List (List Receipt))
-    → SeatsStand logs seats → seats_that test chan place seats ≡ cond (test entry.act) (claims_at chan place seats) 0
+    → SeatsAreInLogs logs seats → seats_that test chan place seats
+    ≡ cond (test entry.act) (claims_at chan place seats) 0
 seats_keep test logs chan place entry here [] stand = none (test entry.act)
 seats_keep test logs chan place entry here (rs ∷ seats) stand =
     ap (λ n. n + seats_that test chan place seats) (receipts_keep test logs chan place entry here rs (stand 0 rs refl))
@@ -242,7 +245,7 @@ taken_once log list seats chan same once = record {
   each_returned = λ n. times_weighed (Back n) log list seats chan (same (takes (Back n))) ∙ once.each_returned n;
 }
 
-pub taken_by_seats : (lines : List Decl) (channels seats : ℕ) (left : List Sitting) (accounts : List Account)
+pub taken_by_seats : (lines : List Decl) (channels seats : ℕ) (left : List SeatCommits) (accounts : List Account)
     (receipts : List (List Receipt))
     → IsReport lines channels seats left (record { accounts = accounts; receipts = receipts })
     → IsGathered (logs_of accounts) receipts → AreTakenOnce lines (record { accounts = accounts; receipts = receipts })

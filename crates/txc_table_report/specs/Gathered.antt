@@ -5,19 +5,19 @@ use Rattle.txc_base.specs.declared.entry.Entry.{Entry}
 use Rattle.txc_chan.specs.declared.account.Account.{Account}
 use Rattle.txc_txn.specs.declared.deed.Deed.{Deed}
 use Rattle.txc_txn.specs.declared.receipt.Receipt.{Receipt}
-use Rattle.txc_txn.specs.InLog.{Logs, ReceiptStands}
+use Rattle.txc_txn.specs.InLog.{Logs, ReceiptIsInLog}
 use Rattle.txc_chan.specs.Reserved.{one_if}
-use Rattle.txc_table_seat.specs.Seated.{IsOwn, count}
+use Rattle.txc_table_seat.specs.Seated.{AreReceiptsOf, count}
 
 -- each act of these receipts is the entry at its place
-abbrev pub ReceiptsStand : Logs → List Receipt → Type 0
-ReceiptsStand logs receipts = (n : ℕ) (receipt : Receipt) → slice_get receipts n ≡ Some receipt
-    → ReceiptStands logs receipt
+abbrev pub ReceiptsAreInLogs : Logs → List Receipt → Type 0
+ReceiptsAreInLogs logs receipts = (n : ℕ) (receipt : Receipt) → slice_get receipts n ≡ Some receipt
+    → ReceiptIsInLog logs receipt
 
 -- each act of each receipt of each seat is the entry at its place
-abbrev pub SeatsStand : Logs → List (List Receipt) → Type 0
-SeatsStand logs seats = (s : ℕ) (receipts : List Receipt) → slice_get seats s ≡ Some receipts
-    → ReceiptsStand logs receipts
+abbrev pub SeatsAreInLogs : Logs → List (List Receipt) → Type 0
+SeatsAreInLogs logs seats = (s : ℕ) (receipts : List Receipt) → slice_get seats s ≡ Some receipts
+    → ReceiptsAreInLogs logs receipts
 
 -- the log of an account, if there is one
 abbrev pub log_in : Option Account → List Entry
@@ -46,13 +46,13 @@ claims_at chan place (receipts ∷ seats) = receipts_at chan place receipts + cl
 -- each act of each receipt of each seat is the entry at its place, and each entry is at the place of exactly one of
 -- them
 pub record IsGathered (logs : Logs) (seats : List (List Receipt)) : Type 0 where
-  pub stands : SeatsStand logs seats
+  pub stands : SeatsAreInLogs logs seats
   pub once : (chan place : ℕ) → place < length (logs chan) → claims_at chan place seats ≡ 1
 
 -- the receipts belong to seats with numbers from this one on
-abbrev pub AreOwn : ℕ → List (List Receipt) → Type 0
-AreOwn seat [] = Unit {0}
-AreOwn seat (receipts ∷ seats) = IsOwn seat 0 receipts × AreOwn (suc seat) seats
+abbrev pub AreReceiptsOfAll : ℕ → List (List Receipt) → Type 0
+AreReceiptsOfAll seat [] = Unit {0}
+AreReceiptsOfAll seat (receipts ∷ seats) = AreReceiptsOf seat 0 receipts × AreReceiptsOfAll (suc seat) seats
 
 -- how many acts all seats have in a channel
 abbrev pub count_all : ℕ → List (List Receipt) → ℕ

@@ -7,7 +7,7 @@ use Rattle.txc_base.specs.declared.item.Item.{Item}
 use Rattle.txc_base.specs.declared.origin.Origin.{Origin}
 use Rattle.txc_base.specs.declared.origin.Origin.TheVariants.{Written, Back}
 use Rattle.txc_base.specs.Counts.{is_put, is_took, is_other, put, took, other}
-use Rattle.txc_base.specs.Fair.{written}
+use Rattle.txc_base.specs.InOrder.{written}
 use Rattle.txc_base.specs.Kinds.{is_broadcast}
 use Rattle.txc_base.specs.Log.{origin_eq}
 use Rattle.txc_base.specs.Next.{returned}

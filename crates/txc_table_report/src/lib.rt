@@ -10,4 +10,4 @@ mod refusal;
 
 pub use fault::TableFault;
 pub use limits::Limits;
-pub use refusal::why_not;
+pub use refusal::table_fault;

@@ -2,7 +2,7 @@
 ghost use Rattle.std.specs.Prelude.{◌≡◌};
 ghost use Rattle.txc_table_report.specs.Refusal.{channel_limit, seat_limit};
 
-use txc_base::{MOST_CHANNELS, MOST_CHANNELS_OF_LARGE, MOST_SEATS, MOST_SEATS_OF_LARGE};
+use txc_base::{MAX_CHANNELS, MAX_CHANNELS_OF_LARGE, MAX_SEATS, MAX_SEATS_OF_LARGE};
 
 /// How large a table may be.
 #[derive(Debug, Clone, Copy, PartialEq, Eq, Default)]
@@ -16,22 +16,22 @@ pub enum Limits {
 
 impl Limits {
     /// Returns the most channels of a table.
-    pub fn most_channels(self) -> usize
+    pub fn max_channels(self) -> usize
         ensures { result ≡ channel_limit self }
     {
         match self {
-            Limits::Small => MOST_CHANNELS,
-            Limits::Large => MOST_CHANNELS_OF_LARGE,
+            Limits::Small => MAX_CHANNELS,
+            Limits::Large => MAX_CHANNELS_OF_LARGE,
         }
     }
 
     /// Returns the most seats of a table.
-    pub fn most_seats(self) -> usize
+    pub fn max_seats(self) -> usize
         ensures { result ≡ seat_limit self }
     {
         match self {
-            Limits::Small => MOST_SEATS,
-            Limits::Large => MOST_SEATS_OF_LARGE,
+            Limits::Small => MAX_SEATS,
+            Limits::Large => MAX_SEATS_OF_LARGE,
         }
     }
 }

@@ -8,7 +8,7 @@ use crate::limits::Limits;
 use txc_chan::{ChanFault, Decl};
 
 /// Returns the fault of the first channel that has one.
-fn first_refused(decls: &[Decl]) -> Option<ChanFault>
+fn first_channel_fault(decls: &[Decl]) -> Option<ChanFault>
     ensures value { result ≡ first_fault decls.now }
     ensures known { IfSome result (λ fault. fault ≢ ChanFault.NoMemory) }
 {
@@ -22,17 +22,17 @@ fn first_refused(decls: &[Decl]) -> Option<ChanFault>
 
 /// Returns why no table of these channels and this number of seats can be made within the limits. Returns `None` if
 /// there is no reason.
-pub fn why_not(limits: Limits, decls: &[Decl], seats: u16) -> Option<TableFault>
+pub fn table_fault(limits: Limits, decls: &[Decl], seats: u16) -> Option<TableFault>
     ensures value { result ≡ refusal_of limits decls.now seats }
     ensures known { IfSome result (λ fault. reason fault ≡ Some fault) }
 {
-    if decls.len() > limits.most_channels() {
+    if decls.len() > limits.max_channels() {
         return Some(TableFault::TooManyChannels);
     }
-    if seats == 0 || usize::from(seats) > limits.most_seats() {
+    if seats == 0 || usize::from(seats) > limits.max_seats() {
         return Some(TableFault::BadSeatCount);
     }
-    match first_refused(decls) {
+    match first_channel_fault(decls) {
         Some(ChanFault::BoundTooLarge) => Some(TableFault::BoundTooLarge),
         Some(ChanFault::TooManyReaders) => Some(TableFault::TooManyReaders),
         Some(ChanFault::NoMemory) => unreachable!(),

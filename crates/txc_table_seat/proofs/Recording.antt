@@ -5,12 +5,13 @@ use Rattle.txc_txn_check.specs.Limits.{CheckedView}
 use Rattle.txc_txn.specs.declared.receipt.Receipt.{Receipt}
 use Rattle.txc_txn.specs.Run.{PlacesRise}
 use Rattle.txc_table_seat.specs.declared.tally.Tally.{Tally}
-use Rattle.txc_table_seat.specs.Seated.{IsOwn, IsInHistory, StampsRise}
+use Rattle.txc_table_seat.specs.Seated.{AreReceiptsOf, IsInHistory, StampsRise}
 use Rattle.txc_table_seat.specs.Tally.{no_tally, sum, tally_acts}
 use Rattle.txc_table_seat.proofs.Counting.{tally_push}
 
-own_push : (s n : ℕ) (rs : List Receipt) (r : Receipt) → IsOwn s n rs → r.tag.seat ≡ s → r.tag.serial ≡ n + length rs
-    → PlacesRise r → IsOwn s n (rs ++ r ∷ [])
+own_push : (s n : ℕ) (rs : List Receipt) (r : Receipt) → AreReceiptsOf s n rs → r.tag.seat ≡ s → r.tag.serial ≡ n
+    + length rs
+    → PlacesRise r → AreReceiptsOf s n (rs ++ r ∷ [])
 own_push s n [] r own t u rise = (t, omega (arith, u), rise, tt)
 own_push s n (x ∷ xs) r own t u rise = (own.0, own.1, own.2, own_push s (suc n) xs r own.3 t (omega (arith, u)) rise)
 

@@ -11,7 +11,7 @@ use Rattle.txc_table_seat.specs.Tally.{AreTallied}
 
 -- a seat: its number, the receipts of its transactions in commit order, the stamp of the last one, and these
 -- transactions
-pub record Sitting : Type 0 where
+pub record SeatCommits : Type 0 where
   pub number : ℕ
   pub receipts : List Receipt
   pub stamp : ℕ
@@ -28,14 +28,15 @@ counts_from chan zero receipts = []
 counts_from chan (suc n) receipts = count chan receipts ∷ counts_from (suc chan) n receipts
 
 -- the receipts have this seat and serials from this one on, and in each of them places rise
-abbrev pub IsOwn : ℕ → ℕ → List Receipt → Type 0
-IsOwn seat serial [] = Unit {0}
-IsOwn seat serial (receipt ∷ receipts) = (receipt.tag.seat ≡ seat) × (receipt.tag.serial ≡ serial) × PlacesRise receipt
-    × IsOwn seat (suc serial) receipts
+abbrev pub AreReceiptsOf : ℕ → ℕ → List Receipt → Type 0
+AreReceiptsOf seat serial [] = Unit {0}
+AreReceiptsOf seat serial (receipt ∷ receipts) = (receipt.tag.seat ≡ seat) × (receipt.tag.serial ≡ serial)
+    × PlacesRise receipt
+    × AreReceiptsOf seat (suc serial) receipts
 
 -- the tag of the seat's next transaction, with its last stamp
-abbrev pub next_tag : Sitting → Tag
-next_tag sitting = record { seat = sitting.number; serial = length sitting.receipts; stamp = sitting.stamp }
+abbrev pub next_tag : SeatCommits → Tag
+next_tag commits = record { seat = commits.number; serial = length commits.receipts; stamp = commits.stamp }
 
 -- the stamps of these receipts rise, start above the first number and end at the second
 abbrev pub StampsRise : ℕ → ℕ → List Receipt → Type 0
@@ -47,11 +48,11 @@ abbrev pub last_receipt : List Receipt → Option Receipt
 last_receipt receipts = slice_get receipts (length receipts - 1)
 
 -- a seat with this number that has committed nothing
-abbrev pub untouched : ℕ → Sitting
-untouched number = record { number = number; receipts = []; stamp = 0; plans = [] }
+abbrev pub no_commits : ℕ → SeatCommits
+no_commits number = record { number = number; receipts = []; stamp = 0; plans = [] }
 
 -- a seat after one more transaction with this receipt
-abbrev pub with_receipt : Sitting → CheckedView → Receipt → Sitting
+abbrev pub with_receipt : SeatCommits → CheckedView → Receipt → SeatCommits
 with_receipt seat plan receipt = record {
   number = seat.number;
   receipts = seat.receipts ++ receipt ∷ [];
@@ -61,7 +62,7 @@ with_receipt seat plan receipt = record {
 
 -- what a seat has committed, for how many more receipts there is room, and how many channels its table has
 pub record HistoryView : Type 0 where
-  pub sitting : Sitting
+  pub commits : SeatCommits
   pub room : ℕ
   pub channels : ℕ
 
@@ -70,7 +71,7 @@ pub record HistoryView : Type 0 where
 pub record IsInHistory (number : ℕ) (receipts : List Receipt) (stamp : ℕ) (tallies : List Tally)
     (plans : List CheckedView)
     : Type 0 where
-  pub own : IsOwn number 0 receipts
+  pub own : AreReceiptsOf number 0 receipts
   pub stamped : StampsRise 0 stamp receipts
   pub tallied : AreTallied tallies receipts
   pub even : length plans ≡ length receipts

@@ -3,7 +3,7 @@ ghost use Rattle.std.specs.Prelude.{◌≡◌, ◌≤◌, ◌<◌, ◌+◌, ℕ,
 ghost use Rattle.std.specs.List.{All};
 ghost use Rattle.txc_base.specs.Counts.{is_put, is_took, is_other};
 ghost use Rattle.txc_txn.specs.Run.{PlacesRise, count_deeds};
-ghost use Rattle.txc_table_seat.specs.Seated.{IsOwn, StampsRise, count, last_receipt, next_tag, untouched};
+ghost use Rattle.txc_table_seat.specs.Seated.{AreReceiptsOf, StampsRise, count, last_receipt, next_tag, no_commits};
 ghost use Rattle.txc_table_seat.specs.Seated.{with_receipt};
 ghost use Rattle.txc_table_seat.specs.Tally.{count_that, done_in};
 
@@ -46,7 +46,7 @@ impl<S: Receipts> Model for History<S> {
     ghost coded = { Prim.hlevel (codes, step.the_row.coded) };
 
     ghost view = { λ history. record {
-      sitting = record {
+      commits = record {
         number = history.number;
         receipts = S.all history.receipts;
         stamp = history.stamp;
@@ -64,7 +64,7 @@ impl<S: Receipts> History<S> {
     /// Creates the history of a seat that has committed nothing. The seat has this number, and its table has this many
     /// channels. Returns `AllocError` if allocation fails. Allocates.
     pub fn new(alloc: Global, number: u16, channels: u16) -> Result<History<S>, AllocError>
-        ensures sitting { IfOk result (λ history. history.sitting ≡ untouched number) }
+        ensures commits { IfOk result (λ history. history.commits ≡ no_commits number) }
         ensures channels { IfOk result (λ history. history.channels ≡ channels) }
     {
         let mut tallies = Vec::with_capacity(alloc, usize::from(channels) + UNUSED)?;
@@ -80,29 +80,29 @@ impl<S: Receipts> History<S> {
 
     /// Returns the number of the seat.
     pub fn number(&self) -> u16
-        ensures { result ≡ self.now.sitting.number }
+        ensures { result ≡ self.now.commits.number }
     {
         self.number
     }
 
     /// Returns the number of committed transactions.
     pub fn count(&self) -> usize
-        ensures { result ≡ length self.now.sitting.receipts }
+        ensures { result ≡ length self.now.commits.receipts }
     {
         self.receipts.len()
     }
 
     /// Returns the receipt of the transaction that was committed last, or `None` before the first.
     pub fn last(&self) -> Option<&Receipt>
-        ensures some { IfSome result (λ receipt. last_receipt self.now.sitting.receipts ≡ Some receipt.now) }
-        ensures none { IfNone result (last_receipt self.now.sitting.receipts ≡ None) }
+        ensures some { IfSome result (λ receipt. last_receipt self.now.commits.receipts ≡ Some receipt.now) }
+        ensures none { IfNone result (last_receipt self.now.commits.receipts ≡ None) }
     {
         self.receipts.last()
     }
 
     /// Returns the tag for the next transaction, with the stamp of the last one.
     pub fn next_tag(&self) -> Tag
-        ensures { result ≡ next_tag self.now.sitting }
+        ensures { result ≡ next_tag self.now.commits }
     {
         Tag {
             seat: self.number,
@@ -116,7 +116,7 @@ impl<S: Receipts> History<S> {
     /// memory.
     pub fn reserve(&mut self) -> Result<(), AllocError>
         ensures room { OnOk result (0 < self.new.room) }
-        ensures same { self.new.sitting ≡ self.old.sitting }
+        ensures same { self.new.commits ≡ self.old.commits }
         ensures channels { self.new.channels ≡ self.old.channels }
     {
         self.receipts.reserve()
@@ -132,18 +132,18 @@ impl<S: Receipts> History<S> {
         draft: &mut Box<PaddedReceipt>,
     ) -> usize
         requires room { 0 < self.old.room }
-        requires seat { draft.old.value.receipt.tag.seat ≡ self.old.sitting.number }
-        requires serial { draft.old.value.receipt.tag.serial ≡ length self.old.sitting.receipts }
-        requires later { self.old.sitting.stamp < draft.old.value.receipt.tag.stamp }
+        requires seat { draft.old.value.receipt.tag.seat ≡ self.old.commits.number }
+        requires serial { draft.old.value.receipt.tag.serial ≡ length self.old.commits.receipts }
+        requires later { self.old.commits.stamp < draft.old.value.receipt.tag.stamp }
         requires rise { PlacesRise draft.old.value.receipt }
         requires inside { All (λ deed. deed.chan < self.old.channels) draft.old.value.receipt.acts }
-        requires few { (n : ℕ) → n < self.old.channels → count n self.old.sitting.receipts
+        requires few { (n : ℕ) → n < self.old.channels → count n self.old.commits.receipts
             + count_deeds n draft.old.value.receipt.acts ≤ u64.MAX }
-        ensures number { result ≡ length self.old.sitting.receipts }
-        ensures kept { self.new.sitting ≡ with_receipt self.old.sitting checked.now draft.old.value.receipt }
+        ensures number { result ≡ length self.old.commits.receipts }
+        ensures kept { self.new.commits ≡ with_receipt self.old.commits checked.now draft.old.value.receipt }
         ensures channels { self.new.channels ≡ self.old.channels }
     {
-        let number = self.receipts.len();
+        let number = draft.receipt.tag.serial as usize;
         self.stamp = draft.receipt.tag.stamp;
         count_acts(self.tallies.as_mut_slice(), draft.receipt.acts.as_slice());
         self.receipts.push_reserved(alloc, draft);
@@ -153,7 +153,7 @@ impl<S: Receipts> History<S> {
 
     /// Returns the tally of a channel. A channel that the seat's table does not have has no acts.
     fn tally(&self, chan: u16) -> Tally
-        ensures { result ≡ done_in chan self.now.sitting.receipts }
+        ensures { result ≡ done_in chan self.now.commits.receipts }
     {
         match self.tallies.as_slice().get(usize::from(chan)) {
             Some(tally) => *tally,
@@ -164,7 +164,7 @@ impl<S: Receipts> History<S> {
     /// Returns how many acts of its receipts wrote to a channel or put an item back there. Returns 0 for a channel that
     /// the seat's table does not have.
     pub fn put(&self, chan: u16) -> u64
-        ensures { result ≡ count_that is_put chan self.now.sitting.receipts }
+        ensures { result ≡ count_that is_put chan self.now.commits.receipts }
     {
         self.tally(chan).put
     }
@@ -172,7 +172,7 @@ impl<S: Receipts> History<S> {
     /// Returns how many acts of its receipts took from a channel. Returns 0 for a channel that the seat's table does
     /// not have.
     pub fn took(&self, chan: u16) -> u64
-        ensures { result ≡ count_that is_took chan self.now.sitting.receipts }
+        ensures { result ≡ count_that is_took chan self.now.commits.receipts }
     {
         self.tally(chan).took
     }
@@ -180,7 +180,7 @@ impl<S: Receipts> History<S> {
     /// Returns how many acts of its receipts in a channel neither wrote, put back nor took. Returns 0 for a channel
     /// that the seat's table does not have.
     pub fn other(&self, chan: u16) -> u64
-        ensures { result ≡ count_that is_other chan self.now.sitting.receipts }
+        ensures { result ≡ count_that is_other chan self.now.commits.receipts }
     {
         self.tally(chan).other
     }
@@ -190,10 +190,10 @@ impl<S: Receipts> History<S> {
     /// No receipt has an act in a channel that the seat's table does not have.
     #[tactic(auto, using(crate::proofs::Counting::none_past))]
     pub fn show(&self)
-        ensures own { IsOwn self.now.sitting.number 0 self.now.sitting.receipts }
-        ensures stamped { StampsRise 0 self.now.sitting.stamp self.now.sitting.receipts }
-        ensures even { length self.now.sitting.plans ≡ length self.now.sitting.receipts }
-        ensures inside { (chan : ℕ) → self.now.channels ≤ chan → count chan self.now.sitting.receipts ≡ 0 }
+        ensures own { AreReceiptsOf self.now.commits.number 0 self.now.commits.receipts }
+        ensures stamped { StampsRise 0 self.now.commits.stamp self.now.commits.receipts }
+        ensures even { length self.now.commits.plans ≡ length self.now.commits.receipts }
+        ensures inside { (chan : ℕ) → self.now.channels ≤ chan → count chan self.now.commits.receipts ≡ 0 }
     {
         // Only for the proof: the read of a field shows the invariant of the type.
         let _fields = &self.receipts;
@@ -202,9 +202,9 @@ impl<S: Receipts> History<S> {
     /// Proves that the three counts together are all acts. Does nothing at run time.
     #[tactic(auto, using(crate::proofs::Counting::sorted))]
     pub fn show_counts(&self)
-        ensures { (chan : ℕ) → count_that is_put chan self.now.sitting.receipts
-            + count_that is_took chan self.now.sitting.receipts + count_that is_other chan self.now.sitting.receipts
-            ≡ count chan self.now.sitting.receipts }
+        ensures { (chan : ℕ) → count_that is_put chan self.now.commits.receipts
+            + count_that is_took chan self.now.commits.receipts + count_that is_other chan self.now.commits.receipts
+            ≡ count chan self.now.commits.receipts }
     {
         // Only for the proof: the read of a field shows the invariant of the type.
         let _fields = &self.receipts;
@@ -214,15 +214,15 @@ impl<S: Receipts> History<S> {
 impl History {
     /// Returns the receipt with this number, from 0. Returns `None` if there is none.
     pub fn receipt(&self, number: usize) -> Option<&Receipt>
-        ensures some { IfSome result (λ receipt. slice_get self.now.sitting.receipts number ≡ Some receipt.now) }
-        ensures none { IfNone result (length self.now.sitting.receipts ≤ number) }
+        ensures some { IfSome result (λ receipt. slice_get self.now.commits.receipts number ≡ Some receipt.now) }
+        ensures none { IfNone result (length self.now.commits.receipts ≤ number) }
     {
         self.receipts.get(number)
     }
 
     /// Returns its receipts.
     pub fn into_receipts(self) -> Vec<Receipt>
-        ensures { result.items ≡ self.sitting.receipts }
+        ensures { result.items ≡ self.commits.receipts }
     {
         self.receipts.into_vec()
     }

@@ -1,14 +1,14 @@
 // What a commit changes in a channel, and what a seat waits for.
 ghost use Rattle.std.specs.Prelude.{◌≡◌};
-ghost use Rattle.txc_table_wait.specs.Change.{is_less, is_more};
+ghost use Rattle.txc_table_wait.specs.Change.{is_removed, is_added};
 
 /// How a commit changed a channel, or the change that a waiting seat needs to proceed.
 #[derive(Debug, Clone, Copy, PartialEq, Eq, Default)]
 pub enum Change {
     /// An item was added, so there is more to read.
-    More,
+    Added,
     /// An item was taken, so there is more room.
-    Less,
+    Removed,
     /// Something else changed, or any of these changes.
     #[default]
     Any,
@@ -16,17 +16,17 @@ pub enum Change {
 
 impl Change {
     /// Returns whether the change only lets seats proceed that wait for an item.
-    pub(crate) fn is_more(self) -> bool
-        ensures { result ≡ is_more self }
+    pub(crate) fn is_added(self) -> bool
+        ensures { result ≡ is_added self }
     {
-        matches!(self, Change::More)
+        matches!(self, Change::Added)
     }
 
     /// Returns whether the change only lets seats proceed that wait for room.
-    pub(crate) fn is_less(self) -> bool
-        ensures { result ≡ is_less self }
+    pub(crate) fn is_removed(self) -> bool
+        ensures { result ≡ is_removed self }
     {
-        matches!(self, Change::Less)
+        matches!(self, Change::Removed)
     }
 }
 

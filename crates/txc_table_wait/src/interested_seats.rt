@@ -52,10 +52,10 @@ fn take_bits(word: &AtomicU64) -> u64 {
 impl InterestedSeats {
     /// Sets these bits for a change.
     pub(crate) fn add(&self, change: Change, bits: u64) {
-        if !change.is_less() {
+        if !change.is_removed() {
             self.more.fetch_or(bits, SeqCst);
         }
-        if !change.is_more() {
+        if !change.is_added() {
             self.less.fetch_or(bits, SeqCst);
         }
     }
@@ -68,16 +68,10 @@ impl InterestedSeats {
 
     /// Clears all bits for a change and returns them.
     pub(crate) fn take_bits(&self, change: Change) -> u64 {
-        let more = if change.is_less() {
-            0
-        } else {
-            take_bits(&self.more)
-        };
-        let less = if change.is_more() {
-            0
-        } else {
-            take_bits(&self.less)
-        };
-        more | less
+        match change {
+            Change::Added => take_bits(&self.more),
+            Change::Removed => take_bits(&self.less),
+            Change::Any => take_bits(&self.more) | take_bits(&self.less),
+        }
     }
 }

@@ -1,16 +1,16 @@
 // A set of seats.
 ghost use Rattle.std.specs.Prelude.{◌≡◌, ◌≢◌, ◌<◌, ◌↔◌, ◌%◌, ℕ, max, IfNone, IfSome, IsTrue};
 ghost use Rattle.std.specs.Int.{bit_at};
-ghost use Rattle.txc_base.specs.declared.limits.TheConstants.{MOST_SEATS_OF_LARGE};
+ghost use Rattle.txc_base.specs.declared.limits.TheConstants.{MAX_SEATS_OF_LARGE};
 
-use txc_base::MOST_SEATS_OF_LARGE;
+use txc_base::MAX_SEATS_OF_LARGE;
 
-/// Returns the number of the bit of a seat: its own number modulo `MOST_SEATS_OF_LARGE`.
+/// Returns the number of the bit of a seat: its own number modulo `MAX_SEATS_OF_LARGE`.
 pub(crate) fn bit_of(seat: u16) -> usize
-    ensures few { result < MOST_SEATS_OF_LARGE }
-    ensures state { result ≡ seat % MOST_SEATS_OF_LARGE }
+    ensures few { result < MAX_SEATS_OF_LARGE }
+    ensures state { result ≡ seat % MAX_SEATS_OF_LARGE }
 {
-    usize::from(seat) % MOST_SEATS_OF_LARGE
+    usize::from(seat) % MAX_SEATS_OF_LARGE
 }
 
 /// A set of seats of a table, stored as the bits of a number. The caller must notify them: the type is not `Drop`, and
@@ -36,7 +36,7 @@ impl Seats {
     }
 
     /// Returns the union of two sets.
-    pub fn and(self, others: Seats) -> Seats
+    pub fn union(self, others: Seats) -> Seats
         ensures { (n : ℕ) → bit_at result.bits n ≡ max (bit_at self.bits n) (bit_at others.bits n) }
     {
         let Seats { bits } = self;
@@ -47,8 +47,8 @@ impl Seats {
     /// Returns the set without the seat with this number. That seat is then not notified: it must not wait before it
     /// registers again.
     pub fn without(self, seat: u16) -> Seats
-        ensures gone { bit_at result.bits (seat % MOST_SEATS_OF_LARGE) ≡ 0 }
-        ensures others { (n : ℕ) → n < MOST_SEATS_OF_LARGE → n ≢ seat % MOST_SEATS_OF_LARGE
+        ensures gone { bit_at result.bits (seat % MAX_SEATS_OF_LARGE) ≡ 0 }
+        ensures others { (n : ℕ) → n < MAX_SEATS_OF_LARGE → n ≢ seat % MAX_SEATS_OF_LARGE
             → bit_at result.bits n ≡ bit_at self.bits n }
     {
         let Seats { bits } = self;
@@ -61,11 +61,11 @@ impl Seats {
     /// Removes the seat with the lowest number and returns it. Returns `None` if the set is empty.
     pub(crate) fn pop(&mut self) -> Option<usize>
         ensures none { IfNone result (self.old.bits ≡ 0) }
-        ensures few { IfSome result (λ seat. seat < MOST_SEATS_OF_LARGE) }
+        ensures few { IfSome result (λ seat. seat < MAX_SEATS_OF_LARGE) }
         ensures had { IfSome result (λ seat. bit_at self.old.bits seat ≡ 1) }
         ensures first { IfSome result (λ seat. (n : ℕ) → n < seat → bit_at self.old.bits n ≡ 0) }
         ensures gone { IfSome result (λ seat. bit_at self.new.bits seat ≡ 0) }
-        ensures others { IfSome result (λ seat. (n : ℕ) → n < MOST_SEATS_OF_LARGE → n ≢ seat
+        ensures others { IfSome result (λ seat. (n : ℕ) → n < MAX_SEATS_OF_LARGE → n ≢ seat
             → bit_at self.new.bits n ≡ bit_at self.old.bits n) }
         ensures fewer { IfSome result (λ seat. self.new.bits < self.old.bits) }
     {

@@ -1,6 +1,6 @@
 // The wait queue.
 ghost use Rattle.std.specs.Prelude.{◌≡◌, ◌≤◌, IfOk, false, min, true};
-ghost use Rattle.txc_base.specs.declared.limits.TheConstants.{MOST_SEATS_OF_LARGE};
+ghost use Rattle.txc_base.specs.declared.limits.TheConstants.{MAX_SEATS_OF_LARGE};
 
 use crate::change::{Change, Interest};
 use crate::interested_seats::{InterestedSeats, make_interested};
@@ -12,7 +12,7 @@ use std::alloc::{AllocError, Global};
 use std::marker::Model;
 use std::sync::{Mutex, Wait};
 use std::time::{Clock, Duration, Instant};
-use txc_base::MOST_SEATS_OF_LARGE;
+use txc_base::MAX_SEATS_OF_LARGE;
 
 /// A wait queue: seats wait at it for commits that change channels as they need. Threads share it by reference. Each
 /// seat registers and waits in one thread at a time, under its number, and leaves once, after its last wait.
@@ -51,9 +51,9 @@ impl WaitQueue {
     /// or has left. Returns `AllocError` if an allocation fails. Allocates.
     pub fn new(alloc: Global, channels: u16, seats: u16) -> Result<WaitQueue, AllocError>
         ensures channels { IfOk result (λ wait_queue. wait_queue.channels ≡ channels) }
-        ensures seats { IfOk result (λ wait_queue. wait_queue.seats ≡ min seats MOST_SEATS_OF_LARGE) }
+        ensures seats { IfOk result (λ wait_queue. wait_queue.seats ≡ min seats MAX_SEATS_OF_LARGE) }
     {
-        let seats = usize::from(seats).min(MOST_SEATS_OF_LARGE);
+        let seats = usize::from(seats).min(MAX_SEATS_OF_LARGE);
         let interested = make_interested(alloc, usize::from(channels))?;
         let parkers = make_parkers(alloc, seats)?;
         let waiters = Waiters::new(alloc, seats)?;
@@ -115,7 +115,7 @@ impl WaitQueue {
     /// released. Does nothing if there are no seats. Blocks only for the wait queue's lock.
     #[inline(always)]
     pub fn notify<R: Wait>(&self, rt: &R, seats: Seats) {
-        if seats.is_empty() {
+        if seats.bits == 0 {
             let Seats { bits: _ } = seats;
         } else {
             self.notify_some(rt, seats);

@@ -8,7 +8,7 @@ use Rattle.txc_base.specs.declared.reply.Reply.{Reply}
 use Rattle.txc_base.specs.declared.tag.Tag.{Tag}
 use Rattle.txc_base.specs.Log.{entries}
 use Rattle.txc_base.specs.Operation.{Did, Replies, Waits, Stops}
-use Rattle.txc_base.specs.Reply.{last_of}
+use Rattle.txc_base.specs.Reply.{last_read_after}
 use Rattle.txc_chan.specs.Logged.{Logged, on_log, Left, grown}
 use Rattle.txc_txn.specs.declared.deed.Deed.{Deed}
 use Rattle.txc_txn.specs.Maps.{put_at}
@@ -29,7 +29,7 @@ pub op_kept : (s : State) (chan : ℕ) (tag : Tag) (did : Did) (reply : Reply) (
     → on_log (s.chans chan) tag did ≡ Left reply l' →
     after_did s chan tag did ≡ Kept (record {
       chans = put_at s.chans chan l';
-      last = last_of reply s.last;
+      last = last_read_after reply s.last;
       replies = s.replies ++ reply ∷ [];
       deeds = s.deeds ++ deeds_of chan (length (s.chans chan).log) (drop (length (s.chans chan).log) l'.log);
     })
@@ -43,7 +43,7 @@ op_kept s chan tag (Replies r acts c) reply l' e =
     ∙ ap (λ (l : Logged). deeds_of chan (length (s.chans chan).log) (drop (length (s.chans chan).log) l.log)) is in
     λ i. Kept (record {
       chans = put_at s.chans chan (is i);
-      last = last_of (who i) s.last;
+      last = last_read_after (who i) s.last;
       replies = s.replies ++ who i ∷ [];
       deeds = s.deeds ++ ds i;
     })
@@ -90,7 +90,7 @@ deeds_more chan place at log e le h =
       act = e.act;
     } ∷ []) p
 
--- .. after those that a path had before
+-- .. after those that a trace had before
 pub deeds_pushed : (old now pushed : List Deed) (chan place at : ℕ) (log : List Entry) (e : Entry) → place ≤ at
     → slice_get log at ≡ Some e
     → now ≡ old ++ deeds_of chan place (take (at - place) (drop place log))

@@ -19,7 +19,7 @@ use Rattle.txc_txn.specs.declared.ran.Ran.{Ran}
 use Rattle.txc_txn.specs.declared.ran.Ran.TheVariants.{Kept as RanKept}
 use Rattle.txc_txn.specs.declared.receipt.Receipt.{Receipt}
 use Rattle.txc_txn.specs.Growth.{AllGrow, Grows}
-use Rattle.txc_txn.specs.InLog.{ReceiptStands}
+use Rattle.txc_txn.specs.InLog.{ReceiptIsInLog}
 use Rattle.txc_txn.specs.Maps.{Map, put_at, settle_all}
 use Rattle.txc_txn.specs.Run.{PlacesRise, RanAs, RanSettled, alternatives, count_deeds, receipt_of}
 use Rattle.txc_txn.specs.Transaction.{State, Ending, Kept, Again, Aborted, after_did, and_then, deeds_at, greatest}
@@ -180,7 +180,7 @@ from_transaction m tag declared steps = of (is_worn tag.serial || is_worn (great
 pub record IsOnLogs (m : Map) (tag : Tag) (declared : List ℕ) (after : Map) (receipt : Receipt) : Type 0 where
   pub tagged : (n : ℕ) → (acts : List Act) × ((after n).log ≡ (m n).log ++ entries receipt.tag acts)
   pub rise : PlacesRise receipt
-  pub stand : ReceiptStands (logs_in after) receipt
+  pub stand : ReceiptIsInLog (logs_in after) receipt
   pub seat : tag.stamp < receipt.tag.stamp
   pub later : All (λ n. (m n).stamp < receipt.tag.stamp) declared
 

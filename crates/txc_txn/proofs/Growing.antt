@@ -9,7 +9,7 @@ use Rattle.txc_base.specs.declared.tag.Tag.{Tag}
 use Rattle.txc_base.specs.Channel.{opening}
 use Rattle.txc_base.specs.Log.{state, entries}
 use Rattle.txc_base.specs.Operation.{Did, Replies, Waits, Stops}
-use Rattle.txc_chan.specs.Logged.{Logged, IsLawful, Undone, on_log, Left, grown}
+use Rattle.txc_chan.specs.Logged.{Logged, MatchesLog, Undone, on_log, Left, grown}
 use Rattle.txc_txn.specs.Growth.{Grows, AllGrow}
 use Rattle.txc_txn.specs.Maps.{Map, put_at, kinds_of}
 
@@ -83,7 +83,7 @@ no_more tag [] xs ys is n = is ∙ append-nil ys
 no_more tag (act ∷ acts) xs ys is n = absurd (omega (arith, n))
 
 -- no more entries than before: the channel of before
-pub restored : (tag : Tag) (a b : Logged) → IsLawful a → IsLawful b → Grows tag a b → b.pending ≤ a.pending → b ≡ a
+pub restored : (tag : Tag) (a b : Logged) → MatchesLog a → MatchesLog b → Grows tag a b → b.pending ≤ a.pending → b ≡ a
 restored tag a b ta tb g le =
     let log : b.log ≡ a.log = no_more tag g.acts b.log a.log g.log (omega (arith, g.pending, le)) in
     let same : b.channel ≡ a.channel = some_is b.channel a.channel

@@ -2,7 +2,7 @@
 use Rattle.std.proofs.Common.{◌≡◌, refl, sym, ◌∙◌, ap, subst, inl, inr, ℕ, zero, suc, ◌<◌, ◌+◌, List, [], ◌∷◌, ◌++◌}
 use Rattle.std.proofs.Common.{length, take, arith, slice_index_or}
 use Rattle.std.proofs.lemmas.Bool.Decides.{eqb_tells}
-use Rattle.txc_chan.specs.Logged.{IsLawful}
+use Rattle.txc_chan.specs.Logged.{MatchesLog}
 use Rattle.txc_txn.specs.Growth.{marks_of}
 use Rattle.txc_txn.specs.Maps.{Map}
 
@@ -28,11 +28,11 @@ marks_more m ns i d marks mark lt is e =
 
 -- the first channels and the next are lawful
 pub lawful_more : (m : Map) (ns : List ℕ) (i d : ℕ) → i < length ns
-    → ((k d : ℕ) → k < i → IsLawful (m (slice_index_or ns k d))) → IsLawful (m (slice_index_or ns i d))
-    → (k d : ℕ) → k < i + 1 → IsLawful (m (slice_index_or ns k d))
+    → ((k d : ℕ) → k < i → MatchesLog (m (slice_index_or ns k d))) → MatchesLog (m (slice_index_or ns i d))
+    → (k d : ℕ) → k < i + 1 → MatchesLog (m (slice_index_or ns k d))
 lawful_more m ns i d lt below here k d' h =
     elim (eqb_tells k i) [
-      | inl t ↦ subst (λ (n : ℕ). IsLawful (m n)) (same_at ns i d d' lt ∙ ap (λ n. slice_index_or ns n d') (sym t.1))
+      | inl t ↦ subst (λ (n : ℕ). MatchesLog (m n)) (same_at ns i d d' lt ∙ ap (λ n. slice_index_or ns n d') (sym t.1))
           here
       | inr t ↦ below k d' (omega (arith, t.1))
     ]

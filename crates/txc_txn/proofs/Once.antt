@@ -6,7 +6,7 @@ use Rattle.txc_base.specs.declared.act.Act.{Act}
 use Rattle.txc_base.specs.declared.op.Op.{Op}
 use Rattle.txc_base.specs.declared.tag.Tag.{Tag}
 use Rattle.txc_base.specs.Op.{chan_of}
-use Rattle.txc_base.specs.Reply.{last_of}
+use Rattle.txc_base.specs.Reply.{last_read_after}
 use Rattle.txc_chan.specs.Committed.{IsCommittedOp, reply_to}
 use Rattle.txc_chan.specs.Logged.{Logged, grown, settled}
 use Rattle.txc_txn_check.specs.declared.step.Step.TheVariants.{Do}
@@ -47,7 +47,7 @@ once m m' tag op act receipt can done others is =
     let n = chan_of op in let kept = kept_tag m tag (n ∷ []) in let l = grown (m n) kept (act ∷ []) done.left in
     let state : State = record {
       chans = put_at m n l;
-      last = last_of (reply_to act) None;
+      last = last_read_after (reply_to act) None;
       replies = reply_to act ∷ [];
       deeds = deeds_at n (length (m n).log) (act ∷ []);
     } in

@@ -8,7 +8,7 @@ use Rattle.txc_base.specs.Log.{entries}
 use Rattle.txc_txn.specs.declared.deed.Deed.{Deed}
 use Rattle.txc_txn.specs.declared.receipt.Receipt.{Receipt}
 use Rattle.txc_txn.specs.Growth.{AllGrow}
-use Rattle.txc_txn.specs.InLog.{ActsStand, Logs, ReceiptStands, Stands}
+use Rattle.txc_txn.specs.InLog.{ActsAreInLog, Logs, ReceiptIsInLog, IsInLog}
 use Rattle.txc_txn.specs.Maps.{Map, settle_all}
 use Rattle.txc_txn.specs.Transaction.{deeds_at}
 use Rattle.txc_txn.proofs.Settling.{settle_keeps}
@@ -62,7 +62,7 @@ logs_in m chan = (m chan).log
 pub record ArePlaced (tag : Tag) (m : Map) (deeds : List Deed) : Type 0 where
   pub rise : (i j : ℕ) (one other : Deed) → i < j → slice_get deeds i ≡ Some one → slice_get deeds j ≡ Some other
       → one.chan ≡ other.chan → one.place < other.place
-  pub stand : ActsStand (logs_in m) tag deeds
+  pub stand : ActsAreInLog (logs_in m) tag deeds
 
 -- with these acts of one channel more
 pub placed_more : (tag : Tag) (m m' : Map) (deeds : List Deed) (chan : ℕ) (acts : List Act)
@@ -81,19 +81,19 @@ placed_more tag m m' deeds chan acts is grows old = record { rise = rise; stand 
         × (slice_get new k ≡ Some deed))
     split i deed h = get_append deeds new i deed h
 
-    stand_old : (i : ℕ) (deed : Deed) → slice_get deeds i ≡ Some deed → Stands (logs_in m') tag deed
+    stand_old : (i : ℕ) (deed : Deed) → slice_get deeds i ≡ Some deed → IsInLog (logs_in m') tag deed
     stand_old i deed h =
         ap (λ l. slice_get l deed.place) (grows deed.chan).log
         ∙ get_front (m deed.chan).log (entries tag (grows deed.chan).acts) deed.place
         (record { tag = tag; act = deed.act }) (old.stand i deed h)
 
-    stand_new : (k : ℕ) (deed : Deed) → slice_get new k ≡ Some deed → Stands (logs_in m') tag deed
+    stand_new : (k : ℕ) (deed : Deed) → slice_get new k ≡ Some deed → IsInLog (logs_in m') tag deed
     stand_new k deed h =
         let r = get_deeds chan place acts k deed h in
         ap (λ n. slice_get (m' n).log deed.place) r.0 ∙ ap (λ l. slice_get l deed.place) is
         ∙ get_behind (m chan).log (entries tag acts) deed.place k r.1 ∙ get_act chan place tag acts k deed h
 
-    stand : (i : ℕ) (deed : Deed) → slice_get (deeds ++ new) i ≡ Some deed → Stands (logs_in m') tag deed
+    stand : (i : ℕ) (deed : Deed) → slice_get (deeds ++ new) i ≡ Some deed → IsInLog (logs_in m') tag deed
     stand i deed h = ⊎_elim (λ a. stand_old i deed a.1) (λ b. stand_new b.0 deed b.2) (split i deed h)
 
     mixed : (i k : ℕ) (one other : Deed) → slice_get deeds i ≡ Some one → slice_get new k ≡ Some other
@@ -125,7 +125,7 @@ placed_more tag m m' deeds chan acts is grows old = record { rise = rise; stand 
         (split j other hj)
 
 -- what stood before some channels were settled stands after it
-pub stand_settled : (m : Map) (stamp : ℕ) (ns : List ℕ) (receipt : Receipt) → ReceiptStands (logs_in m) receipt
-    → ReceiptStands (logs_in (settle_all m stamp ns)) receipt
+pub stand_settled : (m : Map) (stamp : ℕ) (ns : List ℕ) (receipt : Receipt) → ReceiptIsInLog (logs_in m) receipt
+    → ReceiptIsInLog (logs_in (settle_all m stamp ns)) receipt
 stand_settled m stamp ns receipt stand i deed h =
     ap (λ l. slice_get l deed.place) (settle_keeps (λ l. l.log) stamp (λ l. refl) m ns deed.chan) ∙ stand i deed h

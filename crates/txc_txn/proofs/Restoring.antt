@@ -5,7 +5,7 @@ use Rattle.std.proofs.Common.{All, Contains, Some, if◌then◌else◌}
 use Rattle.std.proofs.lemmas.Bool.Decides.{eqb_tells}
 use Rattle.txc_base.specs.declared.tag.Tag.{Tag}
 use Rattle.txc_chan.specs.declared.decl.Decl.{Decl}
-use Rattle.txc_chan.specs.Logged.{Logged, IsLawful}
+use Rattle.txc_chan.specs.Logged.{Logged, MatchesLog}
 use Rattle.txc_txn_check.proofs.Containing.{contains_none, contains_tail, tells}
 use Rattle.txc_txn.specs.Growth.{Grows, AllGrow, SameOutside, marks_of, IsMarked}
 use Rattle.txc_txn.specs.Maps.{Map, kinds_of, put_at}
@@ -37,9 +37,9 @@ grows_now tag m now ds n (inr p) = p.1
 -- one channel more is restored
 back_next : (tag : Tag) (m m1 m2 : Map) (ds marks : List ℕ) (i chan mark : ℕ) → i < length ds
     → chan ≡ slice_index_or ds i chan → mark ≡ slice_index_or marks i mark
-    → marks ≡ marks_of m ds → All (λ n. IsLawful (m n)) ds
+    → marks ≡ marks_of m ds → All (λ n. MatchesLog (m n)) ds
     → m2 ≡ put_at m1 chan (m2 chan)
-    → ((a : Logged) → IsLawful a → a.pending ≡ mark → Grows tag a (m1 chan) → m2 chan ≡ a)
+    → ((a : Logged) → MatchesLog a → a.pending ≡ mark → Grows tag a (m1 chan) → m2 chan ≡ a)
     → ((n : ℕ) → BackOr tag (drop i ds) m m1 n)
     → (n : ℕ) → BackOr tag (drop (i + 1) ds) m m2 n
 back_next tag m m1 m2 ds marks i chan mark lt is at ms lawful others back before n =
@@ -52,8 +52,8 @@ back_next tag m m1 m2 ds marks i chan mark lt is at ms lawful others back before
     pend = sym (at ∙ ap (λ l. slice_index_or l i mark) ms ∙ mark_at m ds i mark chan lt
         ∙ ap (λ k. (m k).pending) (sym is))
 
-    law : IsLawful (m chan)
-    law = subst (λ (k : ℕ). IsLawful (m k)) (sym is) (lawful i chan lt)
+    law : MatchesLog (m chan)
+    law = subst (λ (k : ℕ). MatchesLog (m k)) (sym is) (lawful i chan lt)
 
     restore : m2 chan ≡ m chan
     restore = back (m chan) law pend (grows_now tag m m1 (drop i ds) chan (before chan))
@@ -93,7 +93,7 @@ back_done tag m now ds i le h = back_all tag m now (drop i ds) (drop_end ds i le
 pub back_step : (tag : Tag) (m m1 m2 : Map) (ds marks : List ℕ) (i : ℕ) (start : Map) → i < length ds
     → length marks ≡ length ds → IsMarked tag ds marks m start
     → m2 ≡ put_at m1 (slice_index_or ds i 0) (m2 (slice_index_or ds i 0))
-    → ((a : Logged) → IsLawful a → a.pending ≡ slice_index_or marks i 0 → Grows tag a (m1 (slice_index_or ds i 0))
+    → ((a : Logged) → MatchesLog a → a.pending ≡ slice_index_or marks i 0 → Grows tag a (m1 (slice_index_or ds i 0))
     → m2 (slice_index_or ds i 0) ≡ a)
     → ((n : ℕ) → BackOr tag (drop i ds) m m1 n)
     → (n : ℕ) → BackOr tag (drop (i + 1) ds) m m2 n
@@ -104,7 +104,7 @@ back_step tag m m1 m2 ds marks i start lt long k others back before =
 
 -- what undoing asks for, where the run began at the marked map
 pub marked : (tag : Tag) (declared marks : List ℕ) (m m1 m2 : Map) → m1 ≡ m → marks ≡ marks_of m declared
-    → All (λ n. IsLawful (m n)) declared
+    → All (λ n. MatchesLog (m n)) declared
     → SameOutside declared m1 m2 → AllGrow tag m1 m2 → IsMarked tag declared marks m m2
 marked tag declared marks m m1 m2 same is lawful others grows = record {
   made = is;

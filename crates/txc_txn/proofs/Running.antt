@@ -10,18 +10,18 @@ use Rattle.txc_base.specs.declared.stop.Stop.{Stop}
 use Rattle.txc_base.specs.declared.tag.Tag.{Tag}
 use Rattle.txc_base.specs.Op.{chan_of}
 use Rattle.txc_base.specs.Operation.{operate}
-use Rattle.txc_base.specs.Reply.{last_of}
+use Rattle.txc_base.specs.Reply.{last_read_after}
 use Rattle.txc_chan.specs.declared.answer.Answer.{Answer}
 use Rattle.txc_chan.specs.declared.answer.Answer.TheVariants.{Replied}
 use Rattle.txc_chan.specs.Logged.{Logged, op_on, did}
 use Rattle.txc_txn.specs.declared.deed.Deed.{Deed}
-use Rattle.txc_txn.specs.declared.path.Path.{Path}
+use Rattle.txc_txn.specs.declared.trace.Trace.{Trace}
 use Rattle.txc_txn_check.specs.declared.step.Step.{Step, fold-roll-Step}
 use Rattle.txc_txn_check.specs.declared.step.Step.TheOpen as Open
 use Rattle.txc_txn_check.specs.declared.step.Step.TheVariants.{Do, Or, Retry, rolls-Do, rolls-Or, rolls-Retry}
 use Rattle.txc_txn.specs.Growth.{Grows, AllGrow, SameOutside}
 use Rattle.txc_txn.specs.Maps.{Map, put_at}
-use Rattle.txc_txn.specs.Run.{KeepsPath, deeds_of, state_of, alternatives}
+use Rattle.txc_txn.specs.Run.{KeepsTrace, deeds_of, state_of, alternatives}
 use Rattle.txc_txn.specs.Transaction.{State, Ending, Kept, Again, Aborted, after_did, op_in, layer, step_in, steps_in}
 use Rattle.txc_txn.specs.Transaction.{sequence, first_kept, and_then, or_else}
 use Rattle.txc_txn.proofs.Deeds.{op_kept}
@@ -74,7 +74,7 @@ others_op m m' declared chan l h e = λ n no.
     [ inl t ↦ absurd (no (subst (Contains declared) (sym t.1) h)) | inr t ↦ rw t.0 refl ]
 
 -- two states with equal parts
-pub states_equal : (m m' : Map) (p p' : Path) → m ≡ m' → p.last ≡ p'.last → p.replies.items ≡ p'.replies.items
+pub states_equal : (m m' : Map) (p p' : Trace) → m ≡ m' → p.last ≡ p'.last → p.replies.items ≡ p'.replies.items
     → p.deeds.items ≡ p'.deeds.items → state_of m p ≡ state_of m' p'
 states_equal m m' p p' a b c d = λ j. record { chans = a j; last = b j; replies = c j; deeds = d j }
 
@@ -143,10 +143,10 @@ grows_reply tag m m' chan last op answer reply is e others =
     grows_at tag m m' chan others (grows_there tag m m' chan last op answer reply is e)
 
 -- an operation that replied
-pub op_does : (tag : Tag) (op : Op) (m m' : Map) (p p' : Path) (chan place : ℕ) (answer : Answer) (reply : Reply)
+pub op_does : (tag : Tag) (op : Op) (m m' : Map) (p p' : Trace) (chan place : ℕ) (answer : Answer) (reply : Reply)
     → chan ≡ chan_of op → place ≡ length (m chan).log
     → answer ≡ Replied reply → op_on (m chan) tag p.last op ≡ did answer (m' chan) → m' ≡ put_at m chan (m' chan)
-    → p'.last ≡ last_of reply p.last → p'.replies.items ≡ p.replies.items ++ reply ∷ []
+    → p'.last ≡ last_read_after reply p.last → p'.replies.items ≡ p.replies.items ++ reply ∷ []
     → p'.deeds.items ≡ p.deeds.items ++ deeds_of chan place (drop place (m' chan).log)
     → op_in tag op (state_of m p) ≡ Kept (state_of m' p')
 op_does tag op m m' p p' chan place answer reply at long ans did' others last replies deeds =
@@ -177,35 +177,35 @@ whole : {X : Type 0} (xs : List X) → take (length xs) xs ≡ xs
 whole [] = refl
 whole (x ∷ xs) = ap (λ r. x ∷ r) (whole xs)
 
-pub keeps_refl : (p : Path) → KeepsPath p p
+pub keeps_refl : (p : Trace) → KeepsTrace p p
 keeps_refl p = (whole p.replies.items, whole p.deeds.items)
 
--- a path with the same replies and acts
-pub keeps_same : (p q : Path) → q.replies.items ≡ p.replies.items → q.deeds.items ≡ p.deeds.items → KeepsPath p q
+-- a trace with the same replies and acts
+pub keeps_same : (p q : Trace) → q.replies.items ≡ p.replies.items → q.deeds.items ≡ p.deeds.items → KeepsTrace p q
 keeps_same p q replies deeds = (
   ap (λ xs. take (length p.replies.items) xs) replies ∙ whole p.replies.items,
   ap (λ xs. take (length p.deeds.items) xs) deeds ∙ whole p.deeds.items,
 )
 
--- a path with the same replies and more acts
-pub keeps_more : (p q : Path) → q.replies.items ≡ p.replies.items
-    → take (length p.deeds.items) q.deeds.items ≡ p.deeds.items → KeepsPath p q
+-- a trace with the same replies and more acts
+pub keeps_more : (p q : Trace) → q.replies.items ≡ p.replies.items
+    → take (length p.deeds.items) q.deeds.items ≡ p.deeds.items → KeepsTrace p q
 keeps_more p q replies more = (ap (λ xs. take (length p.replies.items) xs) replies ∙ whole p.replies.items, more)
 
--- a path with the same acts and more replies
-pub keeps_replies : (p q : Path) → q.deeds.items ≡ p.deeds.items
-    → take (length p.replies.items) q.replies.items ≡ p.replies.items → KeepsPath p q
+-- a trace with the same acts and more replies
+pub keeps_replies : (p q : Trace) → q.deeds.items ≡ p.deeds.items
+    → take (length p.replies.items) q.replies.items ≡ p.replies.items → KeepsTrace p q
 keeps_replies p q deeds more = (more, ap (λ xs. take (length p.deeds.items) xs) deeds ∙ whole p.deeds.items)
 
-pub keeps_on : (p p' p'' : Path) → KeepsPath p p' → KeepsPath p' p'' → KeepsPath p p''
+pub keeps_on : (p p' p'' : Trace) → KeepsTrace p p' → KeepsTrace p' p'' → KeepsTrace p p''
 keeps_on p p' p'' h k = (
   kept p.replies.items p'.replies.items p''.replies.items h.0 k.0,
   kept p.deeds.items p'.deeds.items p''.deeds.items h.1 k.1,
 )
 
--- a path with the same replies and acts keeps the same
-pub keeps_as : (p q r : Path) → p.replies.items ≡ q.replies.items → p.deeds.items ≡ q.deeds.items → KeepsPath p r
-    → KeepsPath q r
+-- a trace with the same replies and acts keeps the same
+pub keeps_as : (p q r : Trace) → p.replies.items ≡ q.replies.items → p.deeds.items ≡ q.deeds.items → KeepsTrace p r
+    → KeepsTrace q r
 keeps_as p q r replies deeds h = (
   subst (λ (xs : List Reply). take (length xs) r.replies.items ≡ xs) replies h.0,
   subst (λ (xs : List Deed). take (length xs) r.deeds.items ≡ xs) deeds h.1,

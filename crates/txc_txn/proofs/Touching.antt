@@ -9,7 +9,7 @@ use Rattle.txc_txn_check.proofs.Containing.{contains_none, contains_later, conta
 use Rattle.std.proofs.lemmas.List.{append_assoc, append-nil, drop-append-le, length-map, map-append}
 use Rattle.std.proofs.lemmas.List.Elements.{All-append, All-nil, Contains-append_left}
 use Rattle.txc_base.specs.declared.tag.Tag.{Tag}
-use Rattle.txc_chan.specs.Logged.{Logged, IsLawful}
+use Rattle.txc_chan.specs.Logged.{Logged, MatchesLog}
 use Rattle.txc_txn.specs.Growth.{AllGrow, Grows, IsMarked, marks_of}
 use Rattle.txc_txn.specs.Maps.{Map, put_at}
 use Rattle.txc_txn.proofs.Growing.{grow_none, grow_on}
@@ -20,7 +20,7 @@ use Rattle.txc_txn.proofs.Running.{others_op}
 pub marked_first : (tag : Tag) (m : Map) → IsMarked tag [] [] m m
 marked_first tag m = record {
   made = refl;
-  lawful = All-nil (λ n. IsLawful (m n));
+  lawful = All-nil (λ n. MatchesLog (m n));
   others = λ n no. refl;
   grows = grow_none tag m m refl;
 }
@@ -31,15 +31,15 @@ one P x h (suc i) d lt = absurd (omega arith)
 
 -- a channel more, on which nothing was done yet
 pub marked_more : (tag : Tag) (ns marks : List ℕ) (before now : Map) (chan mark : ℕ) → ¬ Contains ns chan
-    → mark ≡ (now chan).pending → IsLawful (now chan) → IsMarked tag ns marks before now
+    → mark ≡ (now chan).pending → MatchesLog (now chan) → IsMarked tag ns marks before now
     → IsMarked tag (ns ++ chan ∷ []) (marks ++ mark ∷ []) before now
 marked_more tag ns marks before now chan mark none is law k =
     let same : now chan ≡ before chan = k.others chan none in
     record {
       made = (λ j. k.made j ++ (is ∙ ap (λ (l : Logged). l.pending) same) j ∷ [])
           ∙ sym (map-append (λ n. (before n).pending) ns (chan ∷ []));
-      lawful = All-append (λ n. IsLawful (before n)) ns (chan ∷ []) k.lawful
-          (one (λ n. IsLawful (before n)) chan (subst IsLawful same law));
+      lawful = All-append (λ n. MatchesLog (before n)) ns (chan ∷ []) k.lawful
+          (one (λ n. MatchesLog (before n)) chan (subst MatchesLog same law));
       others = λ n no. k.others n (λ c. no (Contains-append_left ns (chan ∷ []) n c));
       grows = k.grows;
     }
@@ -83,7 +83,7 @@ since_more saved marks mark le = ap (λ l. saved ++ l) (drop-append-le (length s
 
 -- a savepoint marks where the channels are now
 pub saved_here : (tag : Tag) (ns marks saved : List ℕ) (before now : Map) → IsMarked tag ns marks before now
-    → saved ≡ marks_of now ns → All (λ n. IsLawful (now n)) ns
+    → saved ≡ marks_of now ns → All (λ n. MatchesLog (now n)) ns
     → (length saved ≤ length marks) × IsMarked tag ns (saved ++ drop (length saved) marks) now now
 saved_here tag ns marks saved before now k is lawful =
     let long : length saved ≡ length marks = ap length is ∙ length-map ns (λ n. (now n).pending)
@@ -121,7 +121,7 @@ since_later (x ∷ saved) (m ∷ marks) (suc i) le lt = since_later saved marks 
 pub back_since : (tag : Tag) (m m1 m2 : Map) (ds marks : List ℕ) (i mark : ℕ) (start : Map) → i < length ds
     → IsMarked tag ds marks m start → slice_index_or marks i 0 ≡ mark
     → m2 ≡ put_at m1 (slice_index_or ds i 0) (m2 (slice_index_or ds i 0))
-    → ((a : Logged) → IsLawful a → a.pending ≡ mark → Grows tag a (m1 (slice_index_or ds i 0))
+    → ((a : Logged) → MatchesLog a → a.pending ≡ mark → Grows tag a (m1 (slice_index_or ds i 0))
     → m2 (slice_index_or ds i 0) ≡ a)
     → ((n : ℕ) → BackOr tag (drop i ds) m m1 n)
     → (n : ℕ) → BackOr tag (drop (i + 1) ds) m m2 n

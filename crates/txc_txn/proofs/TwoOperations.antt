@@ -16,7 +16,7 @@ use Rattle.txc_base.specs.declared.stop.Stop.TheVariants.{Worn}
 use Rattle.txc_base.specs.declared.tag.Tag.{Tag}
 use Rattle.txc_base.specs.Channel.{Channel, list_of}
 use Rattle.txc_base.specs.Operation.{Did, Replies, Waits, Stops, operate, says, taking, with_left, with_list}
-use Rattle.txc_base.specs.Reply.{last_of}
+use Rattle.txc_base.specs.Reply.{last_read_after}
 use Rattle.txc_chan.specs.Committed.{HasNoAct, IsCommittedOp, reply_to}
 use Rattle.txc_chan.specs.Logged.{Left, Logged, Waiting, grown, on_log, op_on, settled}
 use Rattle.txc_txn_check.proofs.Containing.{contains_none, contains_tail}
@@ -189,7 +189,7 @@ moves m m' tag from reader to item act mid has =
     let at : one.chans to ≡ m to = put_elsewhere m from to _ (λ e. has.apart (sym e)) in
     let state : State = record {
       chans = put_at one.chans to target;
-      last = last_of (reply_to act) one.last;
+      last = last_read_after (reply_to act) one.last;
       replies = Got item ∷ reply_to act ∷ [];
       deeds = record { chan = from; place = length (m from).log; act = Took reader item }
           ∷ record { chan = to; place = length (m to).log; act = act } ∷ [];
@@ -199,7 +199,7 @@ moves m m' tag from reader to item act mid has =
     ∙ writes_last one kept to (m to) item.body _ at refl has.wrote.done
     ∙ (λ j. Kept (record {
       chans = put_at one.chans to (grown (at j) kept (act ∷ []) has.wrote.left);
-      last = last_of (reply_to act) one.last;
+      last = last_read_after (reply_to act) one.last;
       replies = Got item ∷ reply_to act ∷ [];
       deeds = record { chan = from; place = length (m from).log; act = Took reader item }
           ∷ record { chan = to; place = length (at j).log; act = act } ∷ [];

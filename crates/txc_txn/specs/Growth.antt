@@ -3,7 +3,7 @@ use Rattle.std.specs.Prelude.{◌≡◌, ℕ, ◌+◌, List, ◌++◌, map, leng
 use Rattle.txc_base.specs.declared.act.Act.{Act}
 use Rattle.txc_base.specs.declared.tag.Tag.{Tag}
 use Rattle.txc_base.specs.Log.{entries}
-use Rattle.txc_chan.specs.Logged.{Logged, IsLawful}
+use Rattle.txc_chan.specs.Logged.{Logged, MatchesLog}
 use Rattle.txc_txn.specs.Maps.{Map}
 
 -- a channel with more entries, all under one tag, which can be undone
@@ -29,6 +29,6 @@ marks_of m declared = map (λ n. (m n).pending) declared
 -- these marks are of an earlier map, and since then only the declared channels have grown
 pub record IsMarked (tag : Tag) (declared marks : List ℕ) (before now : Map) : Type 0 where
   pub made : marks ≡ marks_of before declared
-  pub lawful : All (λ n. IsLawful (before n)) declared
+  pub lawful : All (λ n. MatchesLog (before n)) declared
   pub others : SameOutside declared before now
   pub grows : AllGrow tag before now

@@ -10,13 +10,13 @@ abbrev pub Logs : Type 0
 Logs = ℕ → List Entry
 
 -- an act of a transaction is the entry at its place
-abbrev pub Stands : Logs → Tag → Deed → Type 0
-Stands logs tag deed = slice_get (logs deed.chan) deed.place ≡ Some (record { tag = tag; act = deed.act })
+abbrev pub IsInLog : Logs → Tag → Deed → Type 0
+IsInLog logs tag deed = slice_get (logs deed.chan) deed.place ≡ Some (record { tag = tag; act = deed.act })
 
 -- each of these acts is the entry at its place
-abbrev pub ActsStand : Logs → Tag → List Deed → Type 0
-ActsStand logs tag deeds = (i : ℕ) (deed : Deed) → slice_get deeds i ≡ Some deed → Stands logs tag deed
+abbrev pub ActsAreInLog : Logs → Tag → List Deed → Type 0
+ActsAreInLog logs tag deeds = (i : ℕ) (deed : Deed) → slice_get deeds i ≡ Some deed → IsInLog logs tag deed
 
 -- each act of a receipt is the entry at its place
-abbrev pub ReceiptStands : Logs → Receipt → Type 0
-ReceiptStands logs receipt = ActsStand logs receipt.tag receipt.acts
+abbrev pub ReceiptIsInLog : Logs → Receipt → Type 0
+ReceiptIsInLog logs receipt = ActsAreInLog logs receipt.tag receipt.acts

@@ -14,5 +14,5 @@ pub use Rattle.txc_txn_check.specs.Limits
 pub use Rattle.txc_txn_check.specs.Walk
 pub use Rattle.txc_txn_check.specs.Tally
 pub use Rattle.txc_txn_check.specs.Fault
-pub mod ReceiptRoom
+pub mod ReceiptBuffers
 pub mod TwoOperations

@@ -4,7 +4,7 @@ use Rattle.txc_base.specs.declared.op.Op.{Op}
 use Rattle.txc_base.specs.declared.tag.Tag.{Tag}
 use Rattle.txc_base.specs.Op.{chan_of}
 use Rattle.txc_base.specs.Operation.{Did, Replies, Waits, Stops, operate}
-use Rattle.txc_base.specs.Reply.{last_of}
+use Rattle.txc_base.specs.Reply.{last_read_after}
 use Rattle.txc_chan.specs.Logged.{grown}
 use Rattle.txc_txn_check.specs.declared.step.Step.TheVariants.{Do}
 use Rattle.txc_txn.specs.Maps.{Map, put_at}
@@ -14,7 +14,7 @@ use Rattle.txc_txn.specs.Transaction.{Again, Ending, Aborted, Kept, deeds_at, gr
 abbrev pub ending_of_one : Map → Tag → ℕ → Did → Ending
 ending_of_one m tag chan (Replies reply acts channel) = Kept (record {
   chans = put_at m chan (grown (m chan) tag acts channel);
-  last = last_of reply None;
+  last = last_read_after reply None;
   replies = reply ∷ [];
   deeds = deeds_at chan (length (m chan).log) acts;
 })

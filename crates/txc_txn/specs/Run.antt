@@ -8,9 +8,9 @@ use Rattle.txc_base.specs.declared.stop.Stop.{Stop}
 use Rattle.txc_base.specs.declared.stop.Stop.TheVariants.{NoMemory}
 use Rattle.txc_base.specs.declared.tag.Tag.{Tag}
 use Rattle.txc_txn.specs.declared.deed.Deed.{Deed}
-use Rattle.txc_txn.specs.declared.path.Flow.{Flow}
-use Rattle.txc_txn.specs.declared.path.Flow.TheVariants.{Done, Again as FlowAgain}
-use Rattle.txc_txn.specs.declared.path.Path.{Path}
+use Rattle.txc_txn.specs.declared.trace.StepOutcome.{StepOutcome}
+use Rattle.txc_txn.specs.declared.trace.StepOutcome.TheVariants.{Done, Retry as StepRetry}
+use Rattle.txc_txn.specs.declared.trace.Trace.{Trace}
 use Rattle.txc_txn.specs.declared.ran.Ran.{Ran}
 use Rattle.txc_txn.specs.declared.ran.Ran.TheVariants.{Kept as RanKept, Retry as RanRetry}
 use Rattle.txc_txn.specs.declared.receipt.Receipt.{Receipt}
@@ -20,13 +20,13 @@ use Rattle.txc_txn.specs.Maps.{Map, settle_all}
 use Rattle.txc_txn.specs.Transaction.{State, Ending, Kept, Again, Aborted, first_kept, steps_in}
 
 -- the state of a run
-abbrev pub state_of : Map → Path → State
-state_of m path = record { chans = m; last = path.last; replies = path.replies.items; deeds = path.deeds.items }
+abbrev pub state_of : Map → Trace → State
+state_of m trace = record { chans = m; last = trace.last; replies = trace.replies.items; deeds = trace.deeds.items }
 
 -- the ending that a part of a run returns
-abbrev pub ending_of : Flow → State → Ending
+abbrev pub ending_of : StepOutcome → State → Ending
 ending_of Done state = Kept state
-ending_of (FlowAgain cause) state = Again cause
+ending_of (StepRetry cause) state = Again cause
 
 -- the first of these branches that does not retry (stm)
 abbrev pub alternatives : Tag → Cause → List (List Step) → State → Ending
@@ -38,9 +38,9 @@ deeds_of chan place [] = []
 deeds_of chan place (entry ∷ entries)
     = record { chan = chan; place = place; act = entry.act } ∷ deeds_of chan (suc place) entries
 
--- a path still begins with all that it had before
-abbrev pub KeepsPath : Path → Path → Type 0
-KeepsPath before after = (take (length before.replies.items) after.replies.items ≡ before.replies.items)
+-- a trace still begins with all that it had before
+abbrev pub KeepsTrace : Trace → Trace → Type 0
+KeepsTrace before after = (take (length before.replies.items) after.replies.items ≡ before.replies.items)
     × (take (length before.deeds.items) after.deeds.items ≡ before.deeds.items)
 
 -- how many of these acts are in a channel
@@ -76,11 +76,11 @@ PlacesRise receipt = (i j : ℕ) (one other : Deed) → i < j → slice_get rece
     → slice_get receipt.acts j ≡ Some other
     → one.chan ≡ other.chan → one.place < other.place
 
--- a part of a run ended so: only declared channels grew, by entries under the tag, and the path kept what it had
-pub record HasRun (tag : Tag) (declared : List ℕ) (outcome : State → Ending) (m : Map) (path : Path)
-    (result : Result Flow Stop) (m' : Map) (path' : Path) : Type 0 where
+-- a part of a run ended so: only declared channels grew, by entries under the tag, and the trace kept what it had
+pub record HasRun (tag : Tag) (declared : List ℕ) (outcome : State → Ending) (m : Map) (trace : Trace)
+    (result : Result StepOutcome Stop) (m' : Map) (trace' : Trace) : Type 0 where
   pub others : SameOutside declared m m'
   pub grows : AllGrow tag m m'
-  pub keeps : KeepsPath path path'
-  pub ok : IfOk result (λ flow. outcome (state_of m path) ≡ ending_of flow (state_of m' path'))
-  pub err : IfErr result (λ stop. stop ≢ NoMemory → outcome (state_of m path) ≡ Aborted stop)
+  pub keeps : KeepsTrace trace trace'
+  pub ok : IfOk result (λ flow. outcome (state_of m trace) ≡ ending_of flow (state_of m' trace'))
+  pub err : IfErr result (λ stop. stop ≢ NoMemory → outcome (state_of m trace) ≡ Aborted stop)

@@ -12,7 +12,7 @@ use Rattle.txc_base.specs.declared.stop.Stop.TheVariants.{Worn}
 use Rattle.txc_base.specs.declared.tag.Tag.{Tag}
 use Rattle.txc_base.specs.Op.{chan_of}
 use Rattle.txc_base.specs.Operation.{Did, Replies, Waits, Stops, operate}
-use Rattle.txc_base.specs.Reply.{last_of}
+use Rattle.txc_base.specs.Reply.{last_read_after}
 use Rattle.txc_chan.specs.Logged.{grown}
 use Rattle.txc_txn.specs.declared.deed.Deed.{Deed}
 use Rattle.txc_txn_check.specs.declared.step.Step.{Step, Step-F, fold-Step}
@@ -53,7 +53,7 @@ deeds_at chan place (act ∷ acts) = record { chan = chan; place = place; act = 
 abbrev pub after_did : State → ℕ → Tag → Did → Ending
 after_did state chan tag (Replies reply acts channel) = Kept (record {
   chans = put_at state.chans chan (grown (state.chans chan) tag acts channel);
-  last = last_of reply state.last;
+  last = last_read_after reply state.last;
   replies = state.replies ++ reply ∷ [];
   deeds = state.deeds ++ deeds_at chan (length (state.chans chan).log) acts;
 })

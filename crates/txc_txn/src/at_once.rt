@@ -1,10 +1,10 @@
 // A transaction of one operation that is committed at once.
 ghost use Rattle.std.specs.Prelude.{◌≡◌, ◌||◌, ◌<◌, [], ◌∷◌, false, true, length, IfNone, IfOk, IfSome, IsTrue};
 ghost use Rattle.std.specs.Prelude.{None, IsSome, OnErr};
-ghost use Rattle.txc_base.specs.Kinds.{suits};
+ghost use Rattle.txc_base.specs.Kinds.{supports};
 ghost use Rattle.txc_base.specs.Op.{chan_of};
 ghost use Rattle.txc_base.specs.Operation.{operate};
-ghost use Rattle.txc_chan.specs.Committed.{HasNoAct, IsCommittedOp, is_move};
+ghost use Rattle.txc_chan.specs.Committed.{HasNoAct, IsCommittedOp, is_read_or_write};
 ghost use Rattle.txc_txn_check.specs.declared.step.Step.TheVariants.{Do};
 ghost use Rattle.txc_txn.specs.declared.ran.Ran.TheVariants.{Kept as RanKept};
 ghost use Rattle.txc_txn.specs.AtOnce.{CanCommit, IsImmediate};
@@ -17,10 +17,10 @@ use crate::deed::Deed;
 use crate::next_tag::tag_after;
 use crate::plain::Plain;
 use crate::receipt::Receipt;
-use crate::receipt_room::ReceiptRoom;
+use crate::receipt_buffers::ReceiptBuffers;
 use std::alloc::{AllocError, Global};
 use txc_base::{Act, Op, Tag};
-use txc_chan::{Alone, Log};
+use txc_chan::{Log, NonBlocking};
 
 impl<K: Log> Plain<K> {
     // The tag that a transaction on this channel commits with. `None` if something in the channel is uncommitted, or a
@@ -42,18 +42,18 @@ impl<K: Log> Plain<K> {
     fn commit_at(&mut self, chan: u16, tag: Tag, op: &Op) -> Result<Option<Act>, AllocError>
         requires there { chan < length self.old }
         requires clean { (chan_in self.old chan).pending ≡ 0 }
-        requires suits { suits (chan_in self.old chan).decl.kind op.now ≡ true }
+        requires supports { supports (chan_in self.old chan).decl.kind op.now ≡ true }
         ensures others { chan_in self.new ≡ put_at (chan_in self.old) chan (chan_in self.new chan) }
         ensures done { IfOk result (λ found. IfSome found
             (λ act. IsCommittedOp tag op.now act (chan_in self.old chan) (chan_in self.new chan))) }
         ensures left { IfOk result (λ found. IfNone found (chan_in self.new chan ≡ chan_in self.old chan)) }
-        ensures none { is_move op.now ≡ true → IfOk result (λ found. IfNone found
+        ensures none { is_read_or_write op.now ≡ true → IfOk result (λ found. IfNone found
             (HasNoAct (operate (chan_in self.old chan).channel tag.seat None op.now))) }
         ensures unchanged { OnErr result (chan_in self.new chan ≡ chan_in self.old chan) }
         ensures decl { (chan_in self.new chan).decl ≡ (chan_in self.old chan).decl }
         ensures length { length self.new ≡ length self.old }
     {
-        self.chans[chan as usize].commit(&Alone, tag, op)
+        self.chans[chan as usize].commit(&NonBlocking, tag, op)
     }
 
     /// Commits a transaction of one operation at once, if that is a write or a read and has an act. The kind of its
@@ -69,7 +69,7 @@ impl<K: Log> Plain<K> {
         last: &mut Receipt,
     ) -> Result<bool, AllocError>
         requires there { chan_of op.now < length self.old }
-        requires suits { suits (chan_in self.old (chan_of op.now)).decl.kind op.now ≡ true }
+        requires supports { supports (chan_in self.old (chan_of op.now)).decl.kind op.now ≡ true }
         ensures done { let before = chan_in self.old in let named = chan_of op.now ∷ [] in
             IfOk result (λ is. IsTrue is
             → RanSettled (kept_tag before tag named) named (transaction before tag named (Do op.now ∷ []))
@@ -86,7 +86,7 @@ impl<K: Log> Plain<K> {
             return Ok(false);
         };
         let place = self.chan(chan).log_len();
-        let room = ReceiptRoom::take(alloc, last)?;
+        let room = ReceiptBuffers::take(alloc, last)?;
         let found = match self.commit_at(chan, kept, op) {
             Ok(found) => found,
             Err(AllocError) => {

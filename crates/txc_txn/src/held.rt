@@ -7,11 +7,11 @@ ghost use Rattle.txc_txn_check.specs.Steps.{Fits};
 ghost use Rattle.txc_txn.specs.Transaction.{kept_tag, transaction};
 
 use crate::hold::Hold;
-use crate::path::{Flow, Path};
 use crate::ran::Ran;
 use crate::receipt::Receipt;
 use crate::run::Run;
 use crate::settle::Settle;
+use crate::trace::{StepOutcome, Trace};
 use crate::undo::{Marks, mark_all, undo_all};
 use std::alloc::Global;
 use txc_base::{Stop, Tag};
@@ -22,16 +22,18 @@ use txc_txn_check::Checked;
 /// to become final.
 ///
 /// `tag` has the stamp of the seat's last commit, or 0 before the first. The stamp of the receipt is one more than the
-/// greatest of it and the stamps of the declared channels. Each declared channel must be held, and the operations on it
-/// must suit its kind.
+/// greatest of it and the stamps of the declared channels. Each declared channel must be held, and its kind must
+/// support
+/// the operations on it.
 ///
 /// Returns `Worn` if the serial or that greatest stamp is the greatest number. Otherwise returns the stop if the
 /// transaction aborts, and `NoMemory` if allocation fails. On an error and on a retry all channels are unchanged.
-/// Blocks only if the handle permits it. The receipt reuses the memory of `spent`, and allocates only if that memory is
+/// Blocks only if the handle permits it. The receipt reuses the memory of `recycled`, and allocates only if that memory
+/// is
 /// too small. Operations on the channels can allocate.
 pub fn run_pending<H: Hold, R: Append>(
     rt: &R,
-    spent: Receipt,
+    recycled: Receipt,
     hold: &mut H,
     tag: Tag,
     checked: &Checked,
@@ -48,10 +50,10 @@ pub fn run_pending<H: Hold, R: Append>(
     let run = Run::begin(rt, hold, tag, checked.declared())?;
     let mut marks = Marks::new();
     mark_all(hold, run.declared, &mut marks);
-    let mut path = Path::over(spent, checked.steps().len());
-    match run.steps(hold, &mut path, checked.steps()) {
-        Ok(Flow::Done) => Ok(Ran::Kept(path.receipt(run.tag))),
-        Ok(Flow::Again(cause)) => {
+    let mut trace = Trace::reusing(recycled, checked.steps().len());
+    match run.steps(hold, &mut trace, checked.steps()) {
+        Ok(StepOutcome::Done) => Ok(Ran::Kept(trace.receipt(run.tag))),
+        Ok(StepOutcome::Retry(cause)) => {
             undo_all(hold, run.declared, marks.as_slice());
             Ok(Ran::Retry(cause))
         }
@@ -92,16 +94,17 @@ pub fn run_held<H: Settle, R: Append>(
         IfOk result (λ ran. RanSettled (kept_tag before tag checked.now.declared) checked.now.declared
         (transaction before tag checked.now.declared checked.now.steps) ran before (H.chans hold.new)) }
 {
-    run_held_over(rt, Receipt::blank(alloc), hold, tag, checked)
+    run_held_reusing(rt, Receipt::blank(alloc), hold, tag, checked)
 }
 
-/// Runs a transaction like `run_held`, under the same conditions, in the memory of the receipt `spent`. A caller that
-/// drops each receipt once it is read can pass it as `spent` next. The receipt allocates only if that memory is too
+/// Runs a transaction like `run_held`, under the same conditions, in the memory of the receipt `recycled`. A caller
+/// that
+/// drops each receipt once it is read can pass it as `recycled` next. The receipt allocates only if that memory is too
 /// small. On an error and on a retry that memory is freed. Fails and blocks like `run_held`. Operations on the channels
 /// can allocate.
-pub fn run_held_over<H: Settle, R: Append>(
+pub fn run_held_reusing<H: Settle, R: Append>(
     rt: &R,
-    spent: Receipt,
+    recycled: Receipt,
     hold: &mut H,
     tag: Tag,
     checked: &Checked,
@@ -115,7 +118,7 @@ pub fn run_held_over<H: Settle, R: Append>(
         IfOk result (λ ran. RanSettled (kept_tag before tag checked.now.declared) checked.now.declared
         (transaction before tag checked.now.declared checked.now.steps) ran before (H.chans hold.new)) }
 {
-    match run_pending(rt, spent, hold, tag, checked)? {
+    match run_pending(rt, recycled, hold, tag, checked)? {
         Ran::Kept(receipt) => {
             settle_declared(hold, receipt.tag.stamp, checked.declared());
             Ok(Ran::Kept(receipt))

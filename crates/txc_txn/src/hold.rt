@@ -1,7 +1,7 @@
 // Held channels.
 ghost use Rattle.std.specs.Prelude.{◌≡◌, ◌≢◌, ◌<◌, ◌≤◌, ◌+◌, ℕ, true, length, slice_get, IfOk, IfErr, OnErr};
-ghost use Rattle.txc_base.specs.Kinds.{suits};
-ghost use Rattle.txc_chan.specs.Logged.{IsLawful, Logged, op_on, did, UnlessReplied, Stopped, Undone};
+ghost use Rattle.txc_base.specs.Kinds.{supports};
+ghost use Rattle.txc_chan.specs.Logged.{MatchesLog, Logged, op_on, did, UnlessReplied, Stopped, Undone};
 ghost use Rattle.txc_txn.specs.Maps.{put_at};
 
 use txc_base::{Entry, Op, Stop, Tag};
@@ -22,7 +22,7 @@ pub trait Hold {
     /// The data that no call changes.
     ghost fixed: { Self → Fixed };
 
-    /// Runs an operation that suits the channel's kind. Returns the stop if the operation aborts, and `NoMemory` if
+    /// Runs an operation that the channel's kind supports. Returns the stop if the operation aborts, and `NoMemory` if
     /// allocation fails. After an error or a retry the channel is unchanged. Blocks only if the handle permits it.
     fn apply<R: Append>(
         &mut self,
@@ -33,7 +33,7 @@ pub trait Hold {
         last: Option<u64>,
     ) -> Result<Answer, Stop>
         requires held { IsHeld self.old chan }
-        requires suits { suits (chans self.old chan).decl.kind op.now ≡ true }
+        requires supports { supports (chans self.old chan).decl.kind op.now ≡ true }
         ensures held { (n : ℕ) → IsHeld self.old n → IsHeld self.new n }
         ensures others { chans self.new ≡ put_at (chans self.old) chan (chans self.new chan) }
         ensures ok { IfOk result (λ answer. op_on (chans self.old chan)
@@ -54,7 +54,7 @@ pub trait Hold {
     fn pending(&mut self, chan: u16) -> usize
         requires { IsHeld self.old chan }
         ensures value { result ≡ (chans self.old chan).pending }
-        ensures lawful { IsLawful (chans self.old chan) }
+        ensures lawful { MatchesLog (chans self.old chan) }
         ensures same { self.new ≡ self.old };
 
     /// Returns how many entries a held channel's log has.

@@ -1,10 +1,10 @@
 // A point of an open transaction, to roll back to.
 ghost use Rattle.std.specs.Prelude.{◌≡◌, ℕ, Contains, All, IfOk, length, take};
-ghost use Rattle.txc_chan.specs.Logged.{IsLawful};
+ghost use Rattle.txc_chan.specs.Logged.{MatchesLog};
 ghost use Rattle.txc_txn.specs.Growth.{marks_of};
 
 use crate::hold::Hold;
-use crate::path::Path;
+use crate::trace::Trace;
 use std::alloc::{AllocError, Global};
 
 /// A point of an open transaction that the transaction can be rolled back to.
@@ -21,19 +21,19 @@ pub struct OpenSavepoint {
 }
 
 impl OpenSavepoint {
-    /// Returns the current point of a transaction with these touched channels and this path. Returns `AllocError` if
+    /// Returns the current point of a transaction with these touched channels and this trace. Returns `AllocError` if
     /// allocation fails.
     pub fn of<H: Hold>(
         alloc: Global,
         hold: &mut H,
         touched: &[u16],
-        path: &Path,
+        trace: &Trace,
     ) -> Result<OpenSavepoint, AllocError>
         requires held { (n : ℕ) → Contains touched.now n → H.IsHeld hold.old n }
-        ensures path { IfOk result (λ point. (point.last ≡ path.now.last)
-            × (point.replies ≡ length path.now.replies.items) × (point.deeds ≡ length path.now.deeds.items)) }
+        ensures trace { IfOk result (λ point. (point.last ≡ trace.now.last)
+            × (point.replies ≡ length trace.now.replies.items) × (point.deeds ≡ length trace.now.deeds.items)) }
         ensures marks { IfOk result (λ point. (point.marks.items ≡ marks_of (H.chans hold.old) touched.now)
-            × All (λ n. IsLawful (H.chans hold.old n)) touched.now) }
+            × All (λ n. MatchesLog (H.chans hold.old n)) touched.now) }
         ensures same { hold.new ≡ hold.old }
     {
         let mut marks = Vec::new(alloc);
@@ -41,21 +41,21 @@ impl OpenSavepoint {
             marks.push(hold.pending(*chan))?;
         }
         Ok(OpenSavepoint {
-            last: path.last,
-            replies: path.replies.len(),
-            deeds: path.deeds.len(),
+            last: trace.last,
+            replies: trace.replies.len(),
+            deeds: trace.deeds.len(),
             marks,
         })
     }
 
-    /// Removes from a path what was added since this point.
-    pub fn cut(&self, path: &mut Path)
-        ensures last { path.new.last ≡ self.now.last }
-        ensures replies { path.new.replies.items ≡ take self.now.replies path.old.replies.items }
-        ensures deeds { path.new.deeds.items ≡ take self.now.deeds path.old.deeds.items }
+    /// Removes from a trace what was added since this point.
+    pub fn truncate_trace(&self, trace: &mut Trace)
+        ensures last { trace.new.last ≡ self.now.last }
+        ensures replies { trace.new.replies.items ≡ take self.now.replies trace.old.replies.items }
+        ensures deeds { trace.new.deeds.items ≡ take self.now.deeds trace.old.deeds.items }
     {
-        path.last = self.last;
-        path.replies.truncate(self.replies);
-        path.deeds.truncate(self.deeds);
+        trace.last = self.last;
+        trace.replies.truncate(self.replies);
+        trace.deeds.truncate(self.deeds);
     }
 }

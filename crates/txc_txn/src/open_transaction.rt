@@ -1,28 +1,28 @@
 // A transaction that runs operation by operation.
 ghost use Rattle.std.specs.Prelude.{◌≡◌, ◌≢◌, ℕ, List, [], true, nat_eq, Contains, IfOk, IfErr, OnOk, length, take};
 ghost use Rattle.std.specs.List.{list_any};
-ghost use Rattle.txc_base.specs.Kinds.{suits};
+ghost use Rattle.txc_base.specs.Kinds.{supports};
 ghost use Rattle.txc_base.specs.Op.{chan_of};
 ghost use Rattle.txc_txn.specs.Growth.{AllGrow, IsMarked};
 ghost use Rattle.txc_txn.specs.Maps.{Map, kinds_of, settle_all};
 ghost use Rattle.txc_txn.specs.OpenTransaction.{IsMarkedSince};
-ghost use Rattle.txc_txn.specs.Run.{KeepsPath, ending_of, receipt_of, state_of};
+ghost use Rattle.txc_txn.specs.Run.{KeepsTrace, ending_of, receipt_of, state_of};
 ghost use Rattle.txc_txn.specs.Transaction.{Aborted, op_in, start};
 
 use crate::held::settle_declared;
 use crate::hold::Hold;
 use crate::open_savepoint::OpenSavepoint;
-use crate::path::{Flow, Path};
 use crate::receipt::Receipt;
 use crate::run::Run;
 use crate::settle::Settle;
+use crate::trace::{StepOutcome, Trace};
 use crate::undo::{undo_all, undo_to};
 use std::alloc::{AllocError, Global};
 use txc_base::{Op, Stop, Tag};
 use txc_chan::Append;
 
-/// The number of replies that a new receipt gets memory for with its first reply.
-const FIRST_REPLIES: usize = 4;
+/// The number of replies, and of acts, that a new receipt gets memory for with its first one. Any number is correct.
+const FIRST_CAPACITY: usize = 4;
 
 /// A transaction that runs operation by operation, until it commits or is rolled back.
 #[derive(Drop)]
@@ -30,7 +30,7 @@ pub struct OpenTransaction {
     /// The tag of the log entries that it adds.
     pub tag: Tag,
     /// The body that it read or peeked last, and its replies and acts so far.
-    pub path: Path,
+    pub trace: Trace,
     /// The channels that it has touched, in the order of their first operations.
     pub touched: Vec<u16>,
     /// How many entries of each touched channel could be undone before this transaction.
@@ -38,16 +38,16 @@ pub struct OpenTransaction {
 }
 
 impl OpenTransaction {
-    /// Begins a transaction that commits under this tag, in the memory of the receipt `spent`.
-    pub fn begin(alloc: Global, spent: Receipt, tag: Tag) -> OpenTransaction
+    /// Begins a transaction that commits under this tag, in the memory of the receipt `recycled`.
+    pub fn begin(alloc: Global, recycled: Receipt, tag: Tag) -> OpenTransaction
         ensures tag { result.tag ≡ tag }
-        ensures start { (m : Map) → state_of m result.path ≡ start m }
+        ensures start { (m : Map) → state_of m result.trace ≡ start m }
         ensures touched { (result.touched.items ≡ []) × (result.marks.items ≡ []) }
         ensures marked { (m : Map) → IsMarked tag result.touched.items result.marks.items m m }
     {
         OpenTransaction {
             tag,
-            path: Path::over(spent, FIRST_REPLIES),
+            trace: Trace::reusing(recycled, FIRST_CAPACITY),
             touched: Vec::new(alloc),
             marks: Vec::new(alloc),
         }
@@ -70,7 +70,7 @@ impl OpenTransaction {
             → length self.new.marks.items ≡ length self.new.touched.items }
         ensures marked { (saved : List ℕ) (before : Map) → IsMarkedSince saved self.old before (H.chans hold.old)
             → IsMarkedSince saved self.new before (H.chans hold.old) }
-        ensures rest { (self.new.tag ≡ self.old.tag) × (self.new.path ≡ self.old.path) }
+        ensures rest { (self.new.tag ≡ self.old.tag) × (self.new.trace ≡ self.old.trace) }
         ensures same { hold.new ≡ hold.old }
     {
         if self.has_touched(chan) {
@@ -87,14 +87,19 @@ impl OpenTransaction {
     /// whether the operation ran or must be retried. Returns the stop if the operation aborts, and `NoMemory` if
     /// allocation fails. After a retry or an error the transaction must be rolled back, to a savepoint or as a whole.
     /// Blocks only if the handle permits it.
-    pub fn apply<H: Hold, R: Append>(&mut self, rt: &R, hold: &mut H, op: &Op) -> Result<Flow, Stop>
+    pub fn apply<H: Hold, R: Append>(
+        &mut self,
+        rt: &R,
+        hold: &mut H,
+        op: &Op,
+    ) -> Result<StepOutcome, Stop>
         requires held { H.IsHeld hold.old (chan_of op.now) }
-        requires suits { suits (H.chans hold.old (chan_of op.now)).decl.kind op.now ≡ true }
+        requires supports { supports (H.chans hold.old (chan_of op.now)).decl.kind op.now ≡ true }
         ensures held { (n : ℕ) → H.IsHeld hold.old n → H.IsHeld hold.new n }
-        ensures ok { IfOk result (λ flow. op_in self.old.tag op.now (state_of (H.chans hold.old) self.old.path)
-            ≡ ending_of flow (state_of (H.chans hold.new) self.new.path)) }
+        ensures ok { IfOk result (λ flow. op_in self.old.tag op.now (state_of (H.chans hold.old) self.old.trace)
+            ≡ ending_of flow (state_of (H.chans hold.new) self.new.trace)) }
         ensures err { IfErr result (λ stop. stop ≢ Stop.NoMemory
-            → op_in self.old.tag op.now (state_of (H.chans hold.old) self.old.path) ≡ Aborted stop) }
+            → op_in self.old.tag op.now (state_of (H.chans hold.old) self.old.trace) ≡ Aborted stop) }
         ensures marked { (saved : List ℕ) (before : Map) → IsMarkedSince saved self.old before (H.chans hold.old)
             → IsMarkedSince saved self.new before (H.chans hold.new) }
         ensures touched { ((n : ℕ) → Contains self.old.touched.items n → H.IsHeld hold.old n)
@@ -102,7 +107,7 @@ impl OpenTransaction {
         ensures marks { length self.old.marks.items ≡ length self.old.touched.items
             → length self.new.marks.items ≡ length self.new.touched.items }
         ensures grows { AllGrow self.old.tag (H.chans hold.old) (H.chans hold.new) }
-        ensures keeps { KeepsPath self.old.path self.new.path }
+        ensures keeps { KeepsTrace self.old.trace self.new.trace }
         ensures tag { self.new.tag ≡ self.old.tag }
     {
         self.touch(hold, op.chan())?;
@@ -111,7 +116,7 @@ impl OpenTransaction {
             tag: self.tag,
             declared: &[],
         };
-        run.op(hold, &mut self.path, op)
+        run.op(hold, &mut self.trace, op)
     }
 
     /// Returns a point that the transaction can be rolled back to. Returns `AllocError` if allocation fails.
@@ -124,11 +129,11 @@ impl OpenTransaction {
         ensures marked { (before : Map) → IsMarkedSince [] self.now before (H.chans hold.old)
             → IfOk result (λ point. IsMarkedSince point.marks.items self.now (H.chans hold.old) (H.chans hold.old)) }
         ensures same { hold.new ≡ hold.old }
-        ensures path { IfOk result (λ point. (point.last ≡ self.now.path.last)
-            × (point.replies ≡ length self.now.path.replies.items)
-            × (point.deeds ≡ length self.now.path.deeds.items)) }
+        ensures trace { IfOk result (λ point. (point.last ≡ self.now.trace.last)
+            × (point.replies ≡ length self.now.trace.replies.items)
+            × (point.deeds ≡ length self.now.trace.deeds.items)) }
     {
-        OpenSavepoint::of(alloc, hold, self.touched.as_slice(), &self.path)
+        OpenSavepoint::of(alloc, hold, self.touched.as_slice(), &self.trace)
     }
 
     /// Undoes the operations since a savepoint of this transaction.
@@ -139,9 +144,9 @@ impl OpenTransaction {
         ensures kinds { kinds_of (H.chans hold.new) ≡ kinds_of (H.chans hold.old) }
         ensures back { (before : Map) → IsMarkedSince point.now.marks.items self.old before (H.chans hold.old)
             → H.chans hold.new ≡ before }
-        ensures last { self.new.path.last ≡ point.now.last }
-        ensures replies { self.new.path.replies.items ≡ take point.now.replies self.old.path.replies.items }
-        ensures deeds { self.new.path.deeds.items ≡ take point.now.deeds self.old.path.deeds.items }
+        ensures last { self.new.trace.last ≡ point.now.last }
+        ensures replies { self.new.trace.replies.items ≡ take point.now.replies self.old.trace.replies.items }
+        ensures deeds { self.new.trace.deeds.items ≡ take point.now.deeds self.old.trace.deeds.items }
         ensures rest { (self.new.tag ≡ self.old.tag) × (self.new.touched ≡ self.old.touched)
             × (self.new.marks ≡ self.old.marks) }
     {
@@ -151,7 +156,7 @@ impl OpenTransaction {
             let mark = if i < saved.len() { saved[i] } else { marks[i] };
             undo_to(hold, touched[i], mark);
         }
-        point.cut(&mut self.path);
+        point.truncate_trace(&mut self.trace);
     }
 
     /// Commits the transaction and returns its receipt. The touched channels get the receipt's stamp, and their changes
@@ -159,11 +164,11 @@ impl OpenTransaction {
     pub fn commit<H: Settle>(self, hold: &mut H) -> Receipt
         requires held { (n : ℕ) → Contains self.touched.items n → H.IsHeld hold.old n }
         ensures held { (n : ℕ) → H.IsHeld hold.old n → H.IsHeld hold.new n }
-        ensures receipt { (m : Map) → result ≡ receipt_of self.tag (state_of m self.path) }
+        ensures receipt { (m : Map) → result ≡ receipt_of self.tag (state_of m self.trace) }
         ensures settled { H.chans hold.new ≡ settle_all (H.chans hold.old) self.tag.stamp self.touched.items }
     {
         settle_declared(hold, self.tag.stamp, self.touched.as_slice());
-        self.path.receipt(self.tag)
+        self.trace.receipt(self.tag)
     }
 
     /// Undoes the transaction: the channels are as they were when it began.

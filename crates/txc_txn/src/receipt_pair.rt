@@ -4,7 +4,7 @@ ghost use Rattle.txc_txn.specs.TwoOperations.{IsPair, pair_of};
 
 use crate::deed::Deed;
 use crate::receipt::Receipt;
-use crate::receipt_room::reply_to;
+use crate::receipt_buffers::reply_to;
 use std::alloc::AllocError;
 use txc_base::{Act, Reply, Tag};
 

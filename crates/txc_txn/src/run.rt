@@ -2,19 +2,19 @@
 ghost use Rattle.std.specs.Prelude.{◌≡◌, ◌≢◌, ◌≤◌, ◌||◌, ℕ, true, false, length, IfOk, IfErr, OnOk};
 ghost use Rattle.std.specs.Prelude.{Contains, IsTrue, All};
 ghost use Rattle.txc_base.specs.declared.cause.Cause.TheVariants.{Asked};
-ghost use Rattle.txc_base.specs.Kinds.{suits};
+ghost use Rattle.txc_base.specs.Kinds.{supports};
 ghost use Rattle.txc_base.specs.Op.{chan_of};
 ghost use Rattle.txc_txn.specs.Growth.{AllGrow};
 ghost use Rattle.txc_txn.specs.Maps.{kinds_of, put_at};
-ghost use Rattle.txc_txn.specs.Run.{HasRun, KeepsPath, alternatives, ending_of, state_of};
-ghost use Rattle.txc_txn_check.specs.Limits.{most_declared};
+ghost use Rattle.txc_txn.specs.Run.{HasRun, KeepsTrace, alternatives, ending_of, state_of};
+ghost use Rattle.txc_txn_check.specs.Limits.{max_declared};
 ghost use Rattle.txc_txn_check.specs.Steps.{Fits, NamesOnly, every, is_fit, is_on};
 ghost use Rattle.txc_txn.specs.Transaction.{Aborted, greatest, is_worn, kept_tag, op_in, step_in, steps_in};
 
 use crate::hold::Hold;
 use crate::next_tag::tag_after;
-use crate::path::{Flow, Path, add_deeds, add_reply};
 use crate::savepoint::Savepoint;
+use crate::trace::{StepOutcome, Trace, add_deeds, add_reply};
 use txc_base::{Cause, List, Op, Stop, Tag};
 use txc_chan::{Answer, Append};
 use txc_txn_check::Step;
@@ -71,48 +71,53 @@ impl<'a, R: Append> Run<'a, R> {
 
     /// Runs an operation. Its acts can be undone afterwards, also after an error. Returns the stop if the operation
     /// aborts, and `NoMemory` if allocation fails. Blocks only if the handle permits it.
-    pub fn op<H: Hold>(&self, hold: &mut H, path: &mut Path, op: &Op) -> Result<Flow, Stop>
+    pub fn op<H: Hold>(&self, hold: &mut H, trace: &mut Trace, op: &Op) -> Result<StepOutcome, Stop>
         requires held { H.IsHeld hold.old (chan_of op.now) }
-        requires suits { suits (H.chans hold.old (chan_of op.now)).decl.kind op.now ≡ true }
+        requires supports { supports (H.chans hold.old (chan_of op.now)).decl.kind op.now ≡ true }
         ensures held { (n : ℕ) → H.IsHeld hold.old n → H.IsHeld hold.new n }
         ensures others { H.chans hold.new
             ≡ put_at (H.chans hold.old) (chan_of op.now) (H.chans hold.new (chan_of op.now)) }
         ensures grows { AllGrow self.now.tag (H.chans hold.old) (H.chans hold.new) }
-        ensures keeps { KeepsPath path.old path.new }
-        ensures ok { IfOk result (λ flow. op_in self.now.tag op.now (state_of (H.chans hold.old) path.old)
-            ≡ ending_of flow (state_of (H.chans hold.new) path.new)) }
+        ensures keeps { KeepsTrace trace.old trace.new }
+        ensures ok { IfOk result (λ flow. op_in self.now.tag op.now (state_of (H.chans hold.old) trace.old)
+            ≡ ending_of flow (state_of (H.chans hold.new) trace.new)) }
         ensures err { IfErr result (λ stop. stop ≢ Stop.NoMemory →
-            op_in self.now.tag op.now (state_of (H.chans hold.old) path.old) ≡ Aborted stop) }
+            op_in self.now.tag op.now (state_of (H.chans hold.old) trace.old) ≡ Aborted stop) }
         ensures fixed { H.fixed hold.new ≡ H.fixed hold.old }
     {
         let chan = op.chan();
         let place = hold.log_len(chan);
-        match hold.apply(self.rt, chan, self.tag, op, path.last)? {
+        match hold.apply(self.rt, chan, self.tag, op, trace.last)? {
             Answer::Replied(reply) => {
-                add_deeds(hold, chan, place, path)?;
-                add_reply(path, reply)?;
-                Ok(Flow::Done)
+                add_deeds(hold, chan, place, trace)?;
+                add_reply(trace, reply)?;
+                Ok(StepOutcome::Done)
             }
-            Answer::Retry(cause) => Ok(Flow::Again(cause)),
+            Answer::Retry(cause) => Ok(StepOutcome::Retry(cause)),
         }
     }
 
     /// Runs a step. Its acts can be undone afterwards, also after a retry or an error.
     #[cycle(run)]
-    fn step<H: Hold>(&self, hold: &mut H, path: &mut Path, step: &Step) -> Result<Flow, Stop>
+    fn step<H: Hold>(
+        &self,
+        hold: &mut H,
+        trace: &mut Trace,
+        step: &Step,
+    ) -> Result<StepOutcome, Stop>
         requires names { IsTrue (every (is_on self.now.declared.now) step.now) }
         requires fits { IsTrue (every (is_fit (kinds_of (H.chans hold.old))) step.now) }
         requires held { (n : ℕ) → Contains self.now.declared.now n → H.IsHeld hold.old n }
-        requires few { length self.now.declared.now ≤ most_declared }
+        requires few { length self.now.declared.now ≤ max_declared }
         ensures held { (n : ℕ) → H.IsHeld hold.old n → H.IsHeld hold.new n }
         ensures runs { HasRun self.now.tag self.now.declared.now (step_in self.now.tag step.now)
-            (H.chans hold.old) path.old result (H.chans hold.new) path.new }
+            (H.chans hold.old) trace.old result (H.chans hold.new) trace.new }
         ensures fixed { H.fixed hold.new ≡ H.fixed hold.old }
     {
         match step {
-            Step::Do(op) => self.op(hold, path, op),
-            Step::Or(branches) => self.or(hold, path, branches.as_slice()),
-            Step::Retry => Ok(Flow::Again(Cause::Asked)),
+            Step::Do(op) => self.op(hold, trace, op),
+            Step::Or(branches) => self.or(hold, trace, branches.as_slice()),
+            Step::Retry => Ok(StepOutcome::Retry(Cause::Asked)),
         }
     }
 
@@ -123,25 +128,25 @@ impl<'a, R: Append> Run<'a, R> {
     pub fn steps<H: Hold>(
         &self,
         hold: &mut H,
-        path: &mut Path,
+        trace: &mut Trace,
         steps: &[Step],
-    ) -> Result<Flow, Stop>
+    ) -> Result<StepOutcome, Stop>
         requires names { NamesOnly self.now.declared.now steps.now }
         requires fits { Fits (kinds_of (H.chans hold.old)) steps.now }
         requires held { (n : ℕ) → Contains self.now.declared.now n → H.IsHeld hold.old n }
-        requires few { length self.now.declared.now ≤ most_declared }
+        requires few { length self.now.declared.now ≤ max_declared }
         ensures held { (n : ℕ) → H.IsHeld hold.old n → H.IsHeld hold.new n }
         ensures runs { HasRun self.now.tag self.now.declared.now (steps_in self.now.tag steps.now)
-            (H.chans hold.old) path.old result (H.chans hold.new) path.new }
+            (H.chans hold.old) trace.old result (H.chans hold.new) trace.new }
         ensures fixed { H.fixed hold.new ≡ H.fixed hold.old }
     {
         for step in steps {
-            match self.step(hold, path, step)? {
-                Flow::Done => {}
-                Flow::Again(cause) => return Ok(Flow::Again(cause)),
+            match self.step(hold, trace, step)? {
+                StepOutcome::Done => {}
+                StepOutcome::Retry(cause) => return Ok(StepOutcome::Retry(cause)),
             }
         }
-        Ok(Flow::Done)
+        Ok(StepOutcome::Done)
     }
 
     /// Runs these branches in order until one need not be retried. Undoes each branch that must be retried.
@@ -149,29 +154,29 @@ impl<'a, R: Append> Run<'a, R> {
     fn or<H: Hold>(
         &self,
         hold: &mut H,
-        path: &mut Path,
+        trace: &mut Trace,
         branches: &[List<Step>],
-    ) -> Result<Flow, Stop>
+    ) -> Result<StepOutcome, Stop>
         requires names { All (NamesOnly self.now.declared.now) branches.now }
         requires fits { All (Fits (kinds_of (H.chans hold.old))) branches.now }
         requires held { (n : ℕ) → Contains self.now.declared.now n → H.IsHeld hold.old n }
-        requires few { length self.now.declared.now ≤ most_declared }
+        requires few { length self.now.declared.now ≤ max_declared }
         ensures held { (n : ℕ) → H.IsHeld hold.old n → H.IsHeld hold.new n }
         ensures runs { HasRun self.now.tag self.now.declared.now (alternatives self.now.tag Asked branches.now)
-            (H.chans hold.old) path.old result (H.chans hold.new) path.new }
+            (H.chans hold.old) trace.old result (H.chans hold.new) trace.new }
         ensures fixed { H.fixed hold.new ≡ H.fixed hold.old }
     {
-        let start = Savepoint::of(hold, self.declared, path);
+        let start = Savepoint::of(hold, self.declared, trace);
         let mut cause = Cause::Asked;
         for branch in branches {
-            match self.steps(hold, path, branch.as_slice())? {
-                Flow::Done => return Ok(Flow::Done),
-                Flow::Again(why) => {
-                    start.restore(hold, self.declared, path);
+            match self.steps(hold, trace, branch.as_slice())? {
+                StepOutcome::Done => return Ok(StepOutcome::Done),
+                StepOutcome::Retry(why) => {
+                    start.restore(hold, self.declared, trace);
                     cause = why;
                 }
             }
         }
-        Ok(Flow::Again(cause))
+        Ok(StepOutcome::Retry(cause))
     }
 }

@@ -10,8 +10,8 @@ use Rattle.txc_base.specs.Kinds.{allowed_for, names_its_reader}
 use Rattle.txc_base.specs.Op.{chan_of}
 use Rattle.txc_txn_check.specs.declared.fault.TxnFault.{TxnFault}
 use Rattle.txc_txn_check.specs.declared.fault.TxnFault.TheVariants.{NotForKind, NoReader, TooLong, TooManyChannels}
-use Rattle.txc_txn_check.specs.Limits.{IsRising, most_declared, most_nested, most_operations}
-use Rattle.txc_txn_check.specs.Steps.{is_fit, is_on, suits_there}
+use Rattle.txc_txn_check.specs.Limits.{IsRising, max_declared, max_nested, max_operations}
+use Rattle.txc_txn_check.specs.Steps.{is_fit, is_on, supported_there}
 use Rattle.txc_txn_check.specs.Walk.{Tally, Walked, Fine, Faulty, then_on, tallied, on_kind, walk_op, with_channel}
 use Rattle.txc_txn_check.proofs.Rising.{rises_with, kept_with, new_with, from_with, finds}
 
@@ -35,10 +35,10 @@ pub record Accepted (depth : ℕ) (b a : Tally) (part : Part) : Type 0 where
   pub from : (n : ℕ) → Contains a.channels n → Contains b.channels n ⊎ (part.on n ≡ true)
   pub kept : Covers a.channels b.channels
   pub rises : IsRising b.channels → IsRising a.channels
-  pub few : length b.channels ≤ most_declared → length a.channels ≤ most_declared
+  pub few : length b.channels ≤ max_declared → length a.channels ≤ max_declared
   pub count : a.operations ≡ b.operations + part.operations
-  pub short : b.operations ≤ most_operations → a.operations ≤ most_operations
-  pub shallow : depth ≤ most_nested → depth + part.deep ≤ most_nested
+  pub short : b.operations ≤ max_operations → a.operations ≤ max_operations
+  pub shallow : depth ≤ max_nested → depth + part.deep ≤ max_nested
 
 -- no steps
 abbrev pub no_part : Part
@@ -115,7 +115,7 @@ join depth b m a p q x y = record {
 }
 
 -- an alternative round it
-pub inside : (depth : ℕ) (b a : Tally) (p : Part) → depth < most_nested → Accepted (suc depth) b a p
+pub inside : (depth : ℕ) (b a : Tally) (p : Part) → depth < max_nested → Accepted (suc depth) b a p
     → Accepted depth b a (or_part p)
 inside depth b a p lt x = record {
   fits = x.fits;
@@ -145,7 +145,8 @@ pub split : (w : Walked) (next : Tally → Walked) (a : Tally) → then_on w nex
 split (Fine m) next a h = (m, refl, h)
 split (Faulty fault) next a h = cc
 
-kind_fine : (there : Option Kind) (op : Op) (b a : Tally) → on_kind there op b ≡ Fine a → (suits_there there op ≡ true)
+kind_fine : (there : Option Kind) (op : Op) (b a : Tally) → on_kind there op b ≡ Fine a
+    → (supported_there there op ≡ true)
     × (tallied (chan_of op) b ≡ Fine a)
 kind_fine None op b a h = cc
 kind_fine (Some kind) op b a h =
@@ -160,10 +161,10 @@ kind_fine (Some kind) op b a h =
 fine_is : (x y : Tally) → Fine x ≡ Fine y → x ≡ y
 fine_is x y h = cc
 
-not_long : (n : ℕ) → nat_le most_operations n ≡ false → n < most_operations
+not_long : (n : ℕ) → nat_le max_operations n ≡ false → n < max_operations
 not_long n h = grind (arith, nat_tests, common_steps)
 
-not_many : (n : ℕ) → nat_lt most_declared n ≡ false → n ≤ most_declared
+not_many : (n : ℕ) → nat_lt max_declared n ≡ false → n ≤ max_declared
 not_many n h = grind (arith, nat_tests, common_steps)
 
 is_same : (n k : ℕ) → n ≡ k → nat_eq n k ≡ true
@@ -187,15 +188,15 @@ one kinds op depth b a h = subst (λ (x : Tally). Accepted depth b x (op_part ki
     chan : ℕ
     chan = chan_of op
 
-    long : (nat_le most_operations b.operations ≡ false) × (on_kind (kinds (chan_of op)) op b ≡ Fine a)
-    long = if_fine (nat_le most_operations b.operations) TooLong (on_kind (kinds (chan_of op)) op b) a h
+    long : (nat_le max_operations b.operations ≡ false) × (on_kind (kinds (chan_of op)) op b ≡ Fine a)
+    long = if_fine (nat_le max_operations b.operations) TooLong (on_kind (kinds (chan_of op)) op b) a h
 
-    there : (suits_there (kinds (chan_of op)) op ≡ true) × (tallied (chan_of op) b ≡ Fine a)
+    there : (supported_there (kinds (chan_of op)) op ≡ true) × (tallied (chan_of op) b ≡ Fine a)
     there = kind_fine (kinds (chan_of op)) op b a long.1
 
-    room : (nat_lt most_declared (length (with_channel chan b.channels)) ≡ false)
+    room : (nat_lt max_declared (length (with_channel chan b.channels)) ≡ false)
         × (Fine (record { operations = b.operations + 1; channels = with_channel chan b.channels }) ≡ Fine a)
-    room = if_fine (nat_lt most_declared (length (with_channel chan b.channels))) TooManyChannels
+    room = if_fine (nat_lt max_declared (length (with_channel chan b.channels))) TooManyChannels
         (Fine (record { operations = b.operations + 1; channels = with_channel chan b.channels })) a there.1
 
     is : record { operations = b.operations + 1; channels = with_channel chan b.channels } ≡ a

@@ -13,8 +13,8 @@ use Rattle.txc_txn_check.specs.declared.fault.TxnFault.{TxnFault}
 use Rattle.txc_txn_check.specs.declared.fault.TxnFault.TheVariants.{NotForKind, NoReader, TooManyChannels, TooLong}
 use Rattle.txc_txn_check.specs.declared.step.Step.{Step}
 use Rattle.txc_txn_check.specs.declared.step.Step.TheVariants.{Do, Or, Retry}
-use Rattle.txc_txn_check.specs.Limits.{IsChecked, IsRising, most_declared, most_nested, most_operations}
-use Rattle.txc_txn_check.specs.Steps.{Fits, is_fit, is_on, suits_there}
+use Rattle.txc_txn_check.specs.Limits.{IsChecked, IsRising, max_declared, max_nested, max_operations}
+use Rattle.txc_txn_check.specs.Steps.{Fits, is_fit, is_on, supported_there}
 use Rattle.txc_txn_check.specs.Walk.{Tally, Walked, Fine, Faulty, then_on, tallied, on_kind, nothing_seen, walk}
 use Rattle.txc_txn_check.specs.Walk.{walk_op}
 use Rattle.txc_txn_check.specs.Walk.{walk_step, walk_steps, walk_branches, with_channel}
@@ -32,8 +32,8 @@ pub record HasRoom (declared : List ℕ) (depth : ℕ) (b : Tally) (part : Part)
   pub names : part.names declared ≡ true
   pub rises : IsRising b.channels
   pub among : Covers declared b.channels
-  pub short : b.operations + part.operations ≤ most_operations
-  pub shallow : depth + part.deep ≤ most_nested
+  pub short : b.operations + part.operations ≤ max_operations
+  pub shallow : depth + part.deep ≤ max_nested
 
 -- a walk over a part found no fault, and leaves a tally of these channels
 pub record Gone (declared : List ℕ) (b : Tally) (part : Part) (walked : Walked) : Type 0 where
@@ -89,11 +89,11 @@ and_goes declared v w p q x y depth b room = record {
       shallow = omega (arith, room.shallow);
     })
 
--- an operation that its kind suits is counted
-kind_suits : (there : Option Kind) (op : Op) (b : Tally) → suits_there there op ≡ true
+-- an operation that its kind supports is counted
+kind_supports : (there : Option Kind) (op : Op) (b : Tally) → supported_there there op ≡ true
     → on_kind there op b ≡ tallied (chan_of op) b
-kind_suits None op b h = cc
-kind_suits (Some kind) op b h =
+kind_supports None op b h = cc
+kind_supports (Some kind) op b h =
     ap (λ t. if not t then Faulty NotForKind else if not (names_its_reader kind op) then Faulty NoReader else tallied
     (chan_of op) b)
     (and_left (allowed_for kind op) (names_its_reader kind op) h)
@@ -101,21 +101,21 @@ kind_suits (Some kind) op b h =
     (and_right (allowed_for kind op) (names_its_reader kind op) h)
 
 -- there is room for one operation more
-one_more : (n : ℕ) → n + 1 ≤ most_operations → nat_le most_operations n ≡ false
+one_more : (n : ℕ) → n + 1 ≤ max_operations → nat_le max_operations n ≡ false
 one_more n h = grind (arith, nat_tests, common_steps)
 
 -- so many channels are not too many
-few_enough : (n : ℕ) → n ≤ most_declared → nat_lt most_declared n ≡ false
+few_enough : (n : ℕ) → n ≤ max_declared → nat_lt max_declared n ≡ false
 few_enough n h = grind (arith, nat_tests, common_steps)
 
 -- an operation
-op_goes : (kinds : ℕ → Option Kind) (declared : List ℕ) → IsRising declared → length declared ≤ most_declared
+op_goes : (kinds : ℕ → Option Kind) (declared : List ℕ) → IsRising declared → length declared ≤ max_declared
     → (op : Op)
     → Goes declared (λ depth. walk_op kinds op) (op_part kinds op)
 op_goes kinds declared rising few op depth b room = record {
   a = record { operations = b.operations + 1; channels = with_channel (chan_of op) b.channels };
   fine = ap (λ t. if t then Faulty TooLong else on_kind (kinds (chan_of op)) op b) (one_more b.operations room.short)
-      ∙ kind_suits (kinds (chan_of op)) op b room.fits
+      ∙ kind_supports (kinds (chan_of op)) op b room.fits
       ∙ ap (λ t. if t then Faulty TooManyChannels else Fine
       (record { operations = b.operations + 1; channels = with_channel (chan_of op) b.channels }))
       (few_enough (length (with_channel (chan_of op) b.channels)) (omega (arith, few, long)));
@@ -191,7 +191,7 @@ or_goes kinds declared bs each depth b room = record {
     })
 
 -- every step
-step_goes : (kinds : ℕ → Option Kind) (declared : List ℕ) → IsRising declared → length declared ≤ most_declared
+step_goes : (kinds : ℕ → Option Kind) (declared : List ℕ) → IsRising declared → length declared ≤ max_declared
     → (step : Step) → StepGoes kinds declared step
 step_goes kinds declared rising few = by_steps (StepGoes kinds declared)
     (λ op depth b. moved declared depth b (part_of kinds (Do op)) (op_part kinds op) (walk_step kinds (Do op) depth b)

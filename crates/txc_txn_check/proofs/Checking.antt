@@ -13,7 +13,7 @@ use Rattle.txc_txn_check.specs.declared.fault.TxnFault.TheVariants.{TooDeep}
 use Rattle.txc_txn_check.specs.declared.step.Step.{Step, fold-roll-Step}
 use Rattle.txc_txn_check.specs.declared.step.Step.TheOpen as Open
 use Rattle.txc_txn_check.specs.declared.step.Step.TheVariants.{Do, Or, Retry, rolls-Do, rolls-Or, rolls-Retry}
-use Rattle.txc_txn_check.specs.Limits.{IsChecked, most_nested, operations_in, mentions, mentions_layer, one_true}
+use Rattle.txc_txn_check.specs.Limits.{IsChecked, max_nested, operations_in, mentions, mentions_layer, one_true}
 use Rattle.txc_txn_check.specs.Limits.{sum_of}
 use Rattle.txc_txn_check.specs.Limits.{operations_of, operations_layer, deepest, depth_of, depth_layer}
 use Rattle.txc_txn_check.specs.Steps.{Every, every, every_layer, all_true, is_fit, is_on, Fits}
@@ -119,7 +119,7 @@ part-Retry kinds = λ i. record {
   deep = (ap depth_of (sym rolls-Retry) ∙ fold-roll-Step ℕ depth_layer Open.Retry) i;
 }
 
-not_deep : (n : ℕ) → nat_le most_nested n ≡ false → n < most_nested
+not_deep : (n : ℕ) → nat_le max_nested n ≡ false → n < max_nested
 not_deep n h = grind (arith, nat_tests, common_steps)
 
 or_passes : (kinds : ℕ → Option Kind) (bs : List (List Step)) → EachBranch (Passes kinds) bs → Passes kinds (Or bs)
@@ -128,9 +128,9 @@ or_passes kinds bs each depth b a h =
     (branches_pass kinds bs each (suc depth) b a (ap (λ l. in_turn l (suc depth) b) (sym (walks_map kinds bs))
     ∙ test.1)))
   where
-    test : (nat_le most_nested depth ≡ false)
+    test : (nat_le max_nested depth ≡ false)
         × (in_turn (map in_turn (map (map (walk_step kinds)) bs)) (suc depth) b ≡ Fine a)
-    test = if_fine (nat_le most_nested depth) TooDeep
+    test = if_fine (nat_le max_nested depth) TooDeep
         (in_turn (map in_turn (map (map (walk_step kinds)) bs)) (suc depth) b) a
         (sym (walk_step-Or kinds bs depth b) ∙ h)
 

@@ -12,7 +12,7 @@ use Rattle.txc_base.specs.Op.{chan_of}
 use Rattle.txc_txn_check.specs.declared.step.Step.{Step}
 use Rattle.txc_txn_check.specs.declared.step.Step.TheVariants.{Or, Retry}
 use Rattle.txc_txn_check.specs.Limits.{mentions, one_true, mentioned_in}
-use Rattle.txc_txn_check.specs.Steps.{Fits, NamesOnly, all_true, every, is_fit, is_on, suits_there, fits_in}
+use Rattle.txc_txn_check.specs.Steps.{Fits, NamesOnly, all_true, every, is_fit, is_on, supported_there, fits_in}
 use Rattle.txc_txn_check.proofs.Folds.{and_left, and_right, every-Do, every-Or, every-Retry}
 use Rattle.txc_txn_check.proofs.Induction.{EachStep, EachBranch, each_of, by_steps}
 use Rattle.txc_txn_check.proofs.Accepted.{both}
@@ -56,7 +56,7 @@ carries : (kinds other : ℕ → Option Kind) (declared : List ℕ) → ((n : �
     → (step : Step) → Carries kinds other declared step
 carries kinds other declared agree = by_steps (Carries kinds other declared)
     (λ op h k. every-Do (is_fit other) op
-    ∙ ap (λ there. suits_there there op)
+    ∙ ap (λ there. supported_there there op)
     (agree (chan_of op) (Contains-from_any eqb-true (chan_of op) declared (sym (every-Do (is_on declared) op) ∙ h)))
     ∙ sym (every-Do (is_fit kinds) op) ∙ k)
     (λ bs each h k. every-Or (is_fit other) bs
@@ -115,7 +115,7 @@ branches_there kinds n (b ∷ bs) each h k =
     k))
     (or_cases (one_true (map (mentions n) b)) (list_any one_true (map (map (mentions n)) bs)) h)
 
-some_there : (there : Option Kind) (op : Op) → suits_there there op ≡ true → is_some there ≡ true
+some_there : (there : Option Kind) (op : Op) → supported_there there op ≡ true → is_some there ≡ true
 some_there None op h = cc
 some_there (Some kind) op h = refl
 

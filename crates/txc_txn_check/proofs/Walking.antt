@@ -9,7 +9,7 @@ use Rattle.txc_txn_check.specs.declared.fault.TxnFault.TheVariants.{TooDeep}
 use Rattle.txc_txn_check.specs.declared.step.Step.{Step, fold-roll-Step}
 use Rattle.txc_txn_check.specs.declared.step.Step.TheOpen as Open
 use Rattle.txc_txn_check.specs.declared.step.Step.TheVariants.{Do, Or, Retry, rolls-Do, rolls-Or, rolls-Retry}
-use Rattle.txc_txn_check.specs.Limits.{most_nested}
+use Rattle.txc_txn_check.specs.Limits.{max_nested}
 use Rattle.txc_txn_check.specs.Walk.{Tally, Walked, Fine, Faulty, in_turn, walk_op, walk_layer, walk_step, walk_steps}
 use Rattle.txc_txn_check.specs.Walk.{walk_branches}
 
@@ -32,12 +32,12 @@ pub walk_step-Or : (kinds : ℕ → Option Kind) (bs : List (List Step)) (depth 
 walk_step-Or kinds bs depth t = ap (λ x. walk_step kinds x depth t) (sym (rolls-Or bs))
     ∙ ap (λ f. f depth t) (fold-roll-Step (ℕ → Tally → Walked) (walk_layer kinds) (Open.Or bs))
 
-shallow : (depth : ℕ) → depth < most_nested → nat_le most_nested depth ≡ false
+shallow : (depth : ℕ) → depth < max_nested → nat_le max_nested depth ≡ false
 shallow depth h = grind (arith, nat_tests, common_steps)
 
 -- an alternative that is not too deep
 pub or_walk : (kinds : ℕ → Option Kind) (step : Step) (bs : List (List Step)) (depth : ℕ) (t : Tally) → step ≡ Or bs
-    → depth < most_nested
+    → depth < max_nested
     → walk_step kinds step depth t ≡ walk_branches kinds bs (depth + 1) t
 or_walk kinds step bs depth t is lt =
     let s : suc depth ≡ depth + 1 = omega arith in

@@ -2,22 +2,22 @@
 use Rattle.std.specs.Prelude.{ℕ, suc, ◌+◌, ◌≤◌, max, Bool, false, nat_eq, List, [], ◌∷◌, map, length, IsTrue, Contains}
 use Rattle.std.specs.List.{list_any}
 use Rattle.txc_base.specs.Op.{chan_of}
-use Rattle.txc_txn_check.specs.declared.limits.TheConstants.{MOST_DECLARED, MOST_NESTED, MOST_OPERATIONS}
+use Rattle.txc_txn_check.specs.declared.limits.TheConstants.{MAX_DECLARED, MAX_NESTED, MAX_OPERATIONS}
 use Rattle.txc_txn_check.specs.declared.step.Step.{Step, Step-F, fold-Step}
 use Rattle.txc_txn_check.specs.declared.step.Step.TheOpen.{Do, Or, Retry}
 use Rattle.txc_txn_check.specs.Steps.{NamesOnly}
 
 -- the maximum number of channels of a transaction
-abbrev pub most_declared : ℕ
-most_declared = MOST_DECLARED
+abbrev pub max_declared : ℕ
+max_declared = MAX_DECLARED
 
 -- the maximum depth of nested alternatives
-abbrev pub most_nested : ℕ
-most_nested = MOST_NESTED
+abbrev pub max_nested : ℕ
+max_nested = MAX_NESTED
 
 -- the maximum number of operations of a transaction, in all branches together
-abbrev pub most_operations : ℕ
-most_operations = MOST_OPERATIONS
+abbrev pub max_operations : ℕ
+max_operations = MAX_OPERATIONS
 
 -- one of these is true
 abbrev pub one_true : List Bool → Bool
@@ -94,6 +94,6 @@ pub record IsChecked (plan : CheckedView) : Type 0 where
   pub names : NamesOnly plan.declared plan.steps
   pub named : (n : ℕ) → Contains plan.declared n → IsTrue (mentioned_in n plan.steps)
   pub rising : IsRising plan.declared
-  pub few : length plan.declared ≤ most_declared
-  pub short : operations_in plan.steps ≤ most_operations
-  pub shallow : depth_in plan.steps ≤ most_nested
+  pub few : length plan.declared ≤ max_declared
+  pub short : operations_in plan.steps ≤ max_operations
+  pub shallow : depth_in plan.steps ≤ max_nested

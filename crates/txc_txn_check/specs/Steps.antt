@@ -3,7 +3,7 @@ use Rattle.std.specs.Prelude.{ℕ, Bool, true, false, nat_eq, Option, Some, None
 use Rattle.std.specs.List.{list_all, list_any}
 use Rattle.txc_base.specs.declared.kind.Kind.{Kind}
 use Rattle.txc_base.specs.declared.op.Op.{Op}
-use Rattle.txc_base.specs.Kinds.{suits}
+use Rattle.txc_base.specs.Kinds.{supports}
 use Rattle.txc_base.specs.Op.{chan_of}
 use Rattle.txc_txn_check.specs.declared.step.Step.{Step, Step-F, fold-Step}
 use Rattle.txc_txn_check.specs.declared.step.Step.TheOpen.{Do, Or, Retry}
@@ -34,14 +34,14 @@ is_on declared op = list_any (nat_eq (chan_of op)) declared
 abbrev pub NamesOnly : List ℕ → List Step → Type 0
 NamesOnly declared steps = Every (is_on declared) steps
 
--- a test: there is a channel, and an operation suits its kind
-abbrev pub suits_there : Option Kind → Op → Bool
-suits_there None op = false
-suits_there (Some kind) op = suits kind op
+-- a test: there is a channel, and its kind supports an operation
+abbrev pub supported_there : Option Kind → Op → Bool
+supported_there None op = false
+supported_there (Some kind) op = supports kind op
 
 -- a test: the channel of an operation exists, and its kind has the operation
 abbrev pub is_fit : (ℕ → Option Kind) → Op → Bool
-is_fit kinds op = suits_there (kinds (chan_of op)) op
+is_fit kinds op = supported_there (kinds (chan_of op)) op
 
 -- a test: the channel of every operation exists, and its kind has the operation
 abbrev pub fits_in : (ℕ → Option Kind) → List Step → Bool

@@ -10,7 +10,7 @@ use Rattle.txc_txn_check.specs.declared.fault.TxnFault.TheVariants.{NoChannel, N
 use Rattle.txc_txn_check.specs.declared.fault.TxnFault.TheVariants.{TooDeep, TooLong}
 use Rattle.txc_txn_check.specs.declared.step.Step.{Step, Step-F, fold-Step}
 use Rattle.txc_txn_check.specs.declared.step.Step.TheOpen.{Do, Or, Retry}
-use Rattle.txc_txn_check.specs.Limits.{most_declared, most_nested, most_operations}
+use Rattle.txc_txn_check.specs.Limits.{max_declared, max_nested, max_operations}
 
 -- how many operations were seen, and their channels in rising order
 pub record Tally : Type 0 where
@@ -35,7 +35,7 @@ with_channel n (c ∷ channels) = if nat_lt c n then c ∷ with_channel n channe
 
 -- an operation is counted, unless its channel is one too many
 abbrev pub tallied : ℕ → Tally → Walked
-tallied n tally = if nat_lt most_declared (length (with_channel n tally.channels)) then Faulty TooManyChannels
+tallied n tally = if nat_lt max_declared (length (with_channel n tally.channels)) then Faulty TooManyChannels
     else Fine (record { operations = tally.operations + 1; channels = with_channel n tally.channels })
 
 -- an operation on a channel of this kind; without a kind the channel doesn't exist
@@ -47,7 +47,7 @@ on_kind (Some kind) op tally = if not (allowed_for kind op) then Faulty NotForKi
 
 -- an operation
 abbrev pub walk_op : (ℕ → Option Kind) → Op → Tally → Walked
-walk_op kinds op tally = if nat_le most_operations tally.operations then Faulty TooLong else on_kind
+walk_op kinds op tally = if nat_le max_operations tally.operations then Faulty TooLong else on_kind
     (kinds (chan_of op)) op tally
 
 -- one after another, inside this number of alternatives
@@ -58,7 +58,7 @@ in_turn (walk ∷ walks) depth tally = then_on (walk depth tally) (in_turn walks
 -- a step, at one layer; an alternative is tested before its branches
 abbrev pub walk_layer : (ℕ → Option Kind) → Step-F (ℕ → Tally → Walked) → ℕ → Tally → Walked
 walk_layer kinds (Do op) depth tally = walk_op kinds op tally
-walk_layer kinds (Or branches) depth tally = if nat_le most_nested depth then Faulty TooDeep
+walk_layer kinds (Or branches) depth tally = if nat_le max_nested depth then Faulty TooDeep
     else in_turn (map in_turn branches) (suc depth) tally
 walk_layer kinds Retry depth tally = Fine tally
 

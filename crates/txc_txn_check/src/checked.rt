@@ -1,24 +1,28 @@
 // A transaction that was checked.
-ghost use Rattle.std.specs.Prelude.{◌≡◌, ◌<◌, ℕ, Option, IsOk, IfOk, IfErr, Contains, IsTrue, length, slice_get};
+ghost use Rattle.std.specs.Prelude.{◌≡◌, ◌≢◌, ◌<◌, ℕ, Option, [], ◌∷◌, IsOk, IfOk, IfErr, IfNone, IfSome, Contains};
+ghost use Rattle.std.specs.Prelude.{IsTrue, length, slice_get};
 ghost use Rattle.txc_base.specs.declared.kind.Kind.{Kind};
+ghost use Rattle.txc_base.specs.declared.op.Op.{Op as Ops};
+ghost use Rattle.txc_base.specs.Op.{chan_of};
+ghost use Rattle.txc_txn_check.specs.declared.step.Step.TheVariants.{Do};
 ghost use Rattle.txc_txn_check.specs.Limits.{IsChecked, operations_in};
 ghost use Rattle.txc_txn_check.specs.Steps.{Fits, fits_in};
 ghost use Rattle.txc_txn_check.specs.Walk.{Fine, Faulty, walk};
 
 use crate::fault::TxnFault;
 use crate::fit::fits_steps;
-use crate::limits::MOST_DECLARED;
+use crate::limits::MAX_DECLARED;
 use crate::step::Step;
 use crate::walk::{Seen, see_steps};
 use arrayvec::ArrayVec;
 use std::marker::Model;
-use txc_base::{Kind, List};
+use txc_base::{Kind, List, Op};
 
 /// A transaction within the limits, with the channels that it names.
 #[derive(Debug, Drop)]
 pub struct Checked {
     steps: List<Step>,
-    declared: ArrayVec<u16, MOST_DECLARED>,
+    declared: ArrayVec<u16, MAX_DECLARED>,
 }
 
 impl Model for Checked {
@@ -80,6 +84,24 @@ impl Checked {
         ensures { result.now ≡ self.now.declared }
     {
         self.declared.as_slice()
+    }
+
+    /// Returns the operation of a transaction whose only step it is.
+    pub fn only_operation(&self) -> Option<&Op>
+        ensures some { IfSome result (λ op.
+            (self.now.steps ≡ Do op.now ∷ []) × (self.now.declared ≡ chan_of op.now ∷ [])) }
+        ensures none { IfNone result ((op : Ops) → self.now.steps ≡ Do op ∷ []
+            → self.now.declared ≢ chan_of op ∷ []) }
+    {
+        let steps = self.steps.as_slice();
+        if steps.len() != 1 || self.declared.len() != 1 {
+            return None;
+        }
+        // The channel is always that of the one operation. The comparison saves a proof of that.
+        match &steps[0] {
+            Step::Do(op) if self.declared[0] == op.chan() => Some(op),
+            _ => None,
+        }
     }
 
     /// Shows to a proof what holds for a transaction that fits these kinds. It fits all kinds that agree with these on

@@ -4,7 +4,7 @@ ghost use Rattle.std.specs.List.{list_all};
 ghost use Rattle.txc_txn_check.specs.Steps.{every, fits_in, is_fit};
 
 use crate::step::Step;
-use txc_base::{Kind, List, Op, suits};
+use txc_base::{Kind, List, Op, supports};
 
 /// Returns whether the channel of an operation exists and has the operation, with reader 0 for a queue.
 fn fits_op(kinds: &[Kind], op: &Op) -> bool
@@ -14,7 +14,7 @@ fn fits_op(kinds: &[Kind], op: &Op) -> bool
     if chan >= kinds.len() {
         return false;
     }
-    suits(kinds[chan], op)
+    supports(kinds[chan], op)
 }
 
 /// Returns whether every operation of a step fits.

@@ -12,5 +12,5 @@ mod walk;
 
 pub use checked::Checked;
 pub use fault::TxnFault;
-pub use limits::{MOST_DECLARED, MOST_NESTED, MOST_OPERATIONS};
+pub use limits::{MAX_DECLARED, MAX_NESTED, MAX_OPERATIONS};
 pub use step::Step;

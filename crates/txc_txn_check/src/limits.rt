@@ -1,10 +1,10 @@
 // The limits of a transaction.
 
 /// The maximum number of channels of a transaction.
-pub const MOST_DECLARED: usize = 4;
+pub const MAX_DECLARED: usize = 4;
 
 /// The maximum depth of nested alternatives.
-pub const MOST_NESTED: usize = 8;
+pub const MAX_NESTED: usize = 8;
 
 /// The maximum number of operations of a transaction, in all branches together.
-pub const MOST_OPERATIONS: usize = 64;
+pub const MAX_OPERATIONS: usize = 64;

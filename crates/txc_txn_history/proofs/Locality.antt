@@ -13,7 +13,7 @@ use Rattle.txc_base.specs.declared.stop.Stop.TheVariants.{Worn}
 use Rattle.txc_base.specs.declared.tag.Tag.{Tag}
 use Rattle.txc_base.specs.Op.{chan_of}
 use Rattle.txc_base.specs.Operation.{Did, Replies, Waits, Stops, operate}
-use Rattle.txc_base.specs.Reply.{last_of}
+use Rattle.txc_base.specs.Reply.{last_read_after}
 use Rattle.txc_chan.specs.Logged.{Logged, grown}
 use Rattle.txc_txn_check.specs.declared.step.Step.{Step}
 use Rattle.txc_txn_check.specs.declared.step.Step.TheVariants.{Or}
@@ -108,7 +108,7 @@ module _ (declared : List ℕ) (n : Map) where
       (grown (s.chans chan) tag acts channel) (ap (λ (l : Logged). grown l tag acts channel) here) on in
       λ i. Kept (record {
         chans = now i;
-        last = last_of reply s.last;
+        last = last_read_after reply s.last;
         replies = s.replies ++ reply ∷ [];
         deeds = s.deeds ++ deeds_at chan (length (here i).log) acts;
       })

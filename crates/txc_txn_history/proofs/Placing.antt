@@ -7,7 +7,7 @@ use Rattle.txc_base.specs.declared.entry.Entry.{Entry}
 use Rattle.txc_base.specs.declared.tag.Tag.{Tag}
 use Rattle.txc_base.specs.Channel.{opening}
 use Rattle.txc_base.specs.Log.{entries, state}
-use Rattle.txc_chan.specs.Logged.{IsLawful, Logged, opened, settled}
+use Rattle.txc_chan.specs.Logged.{MatchesLog, Logged, opened, settled}
 use Rattle.txc_chan.specs.declared.decl.Decl.{Decl}
 use Rattle.txc_txn_check.specs.Steps.{NamesOnly}
 use Rattle.txc_txn.specs.declared.ran.Ran.TheVariants.{Kept as RanKept}
@@ -28,7 +28,7 @@ last_push f n [] x = refl
 last_push f n (y ∷ xs) x = last_push f (f y) xs x
 
 -- what a channel that is true to its log is, after these marks
-channel_is : (decl : Decl) (l : Logged) → IsLawful l → l.decl ≡ decl → l.channel ≡ channel_after decl l.log
+channel_is : (decl : Decl) (l : Logged) → MatchesLog l → l.decl ≡ decl → l.channel ≡ channel_after decl l.log
 channel_is decl l lawful declared =
     let here : state (Some (opening decl.kind decl.bound decl.readers)) l.log ≡ Some l.channel =
     subst (λ (d : Decl). state (Some (opening d.kind d.bound d.readers)) l.log ≡ Some l.channel) declared lawful in
@@ -45,7 +45,7 @@ module _ {T : Type 0} (tag_of : T → Tag) (len_of : T → ℕ) where
   stands = stood tag_of len_of
 
   -- a channel with these marks, in which nothing can be undone, told of a log that began so
-  pub stood_now : (decl : Decl) (l : Logged) (log : List Entry) (marks : List T) → IsLawful l → l.decl ≡ decl
+  pub stood_now : (decl : Decl) (l : Logged) (log : List Entry) (marks : List T) → MatchesLog l → l.decl ≡ decl
       → l.pending ≡ 0 → stamps marks ≡ l.stamp → take (lens marks) log ≡ l.log → l ≡ stands decl log marks
   stood_now decl l log marks lawful declared clean stamp begins = λ i. record {
     decl = declared i;

@@ -7,7 +7,7 @@ use Rattle.txc_base.specs.declared.tag.Tag.{Tag}
 use Rattle.txc_base.specs.Channel.{Channel, opening}
 use Rattle.txc_base.specs.Log.{state}
 use Rattle.txc_chan.specs.declared.decl.Decl.{Decl}
-use Rattle.txc_chan.specs.Logged.{Logged, IsLawful}
+use Rattle.txc_chan.specs.Logged.{Logged, MatchesLog}
 use Rattle.txc_txn_check.specs.Steps.{NamesOnly}
 use Rattle.txc_txn.specs.Maps.{Map, settle_all}
 use Rattle.txc_txn.specs.Run.{receipt_of}
@@ -92,8 +92,8 @@ module _ {T : Type 0} (tag_of : T → Tag) (len_of : T → ℕ) where
   -- when found; the earlier marks have the stamp and the log length found, and one more mark is at the end of the log
   -- that was left, which is then seen
   pub record IsFound (decl : Decl) (log : List Entry) (marks : List T) (tag : Tag) (found left : Logged) : Type 0 where
-    pub lawful : IsLawful found
-    pub lawful_left : IsLawful left
+    pub lawful : MatchesLog found
+    pub lawful_left : MatchesLog left
     pub declared : found.decl ≡ decl
     pub clean : found.pending ≡ 0
     pub before : List T

@@ -10,7 +10,7 @@ ghost use Rattle.yalwythen_domain.specs.Any.{AnswersRequest, IsNewDomain, TellsI
 
 use std::alloc::Global;
 use std::mem;
-use yalwythen_domain::{CallResult, Domain, Order, Record, discard};
+use yalwythen_domain::{CallResult, Domain, RawStep, Record, drop_domain};
 
 /// Returns the size of a domain in bytes. A domain's address must be a multiple of 16. Does not allocate.
 #[unsafe(no_mangle)]
@@ -41,20 +41,22 @@ pub unsafe extern "C" fn yalwythen_core_init_recorded(at: *mut u8, alloc: Global
     place.write(Domain::recorded(alloc));
 }
 
-/// Performs the request with the number `verb` on the domain at this address, like `Domain::ask` of `yalwythen_domain`,
+/// Performs the request with the number `request` on the domain at this address, like `Domain::ask` of
+/// `yalwythen_domain`,
 /// and returns its result. The result's code is 4 if the request is rejected, and 5 if an allocation fails.
 #[unsafe(no_mangle)]
-pub unsafe extern "C" fn yalwythen_core_ask(at: *mut u8, verb: u64, a: u64, b: u64) -> CallResult
+pub unsafe extern "C" fn yalwythen_core_ask(at: *mut u8, request: u64, a: u64, b: u64) -> CallResult
     ghost before: { Domains }
     requires* { sem 𝓛 (lies_at domain_type.the_row full_share at before) }
-    ensures* { sem 𝓛 (fex Domains (λ after. fex (AnswersRequest verb a b before after result)
+    ensures* { sem 𝓛 (fex Domains (λ after. fex (AnswersRequest request a b before after result)
         (λ _. lies_at domain_type.the_row full_share at after))) }
 {
     let domain = &mut *(at as *mut Domain);
-    domain.ask(verb, a, b)
+    domain.ask(request, a, b)
 }
 
-/// Runs the steps in `orders` as one transaction of a seat of the domain at this address. If it commits, returns code 0
+/// Runs the steps in `raw_steps` as one transaction of a seat of the domain at this address. If it commits, returns
+/// code 0
 /// with the number of replies, and writes as many of them as fit to the front of `replies`. Otherwise the code is 1 if
 /// the transaction must be retried, 2 if it aborts, 3 if the steps are invalid, 4 if the request is rejected, and 5 if
 /// an allocation fails. Allocates.
@@ -62,16 +64,16 @@ pub unsafe extern "C" fn yalwythen_core_ask(at: *mut u8, verb: u64, a: u64, b: u
 pub unsafe extern "C" fn yalwythen_core_transact(
     at: *mut u8,
     seat: u64,
-    orders: &[Order],
+    raw_steps: &[RawStep],
     replies: &mut [CallResult],
 ) -> CallResult
     ghost before: { Domains }
     requires* { sem 𝓛 (lies_at domain_type.the_row full_share at before) }
-    ensures* { sem 𝓛 (fex Domains (λ after. fex (Transacts seat orders.now before after replies.old replies.new
+    ensures* { sem 𝓛 (fex Domains (λ after. fex (Transacts seat raw_steps.now before after replies.old replies.new
         result) (λ _. lies_at domain_type.the_row full_share at after))) }
 {
     let domain = &mut *(at as *mut Domain);
-    domain.transact(seat, orders, replies)
+    domain.transact(seat, raw_steps, replies)
 }
 
 /// Writes the bodies of the items of a reply of the domain at this address, from item `from` on, to the front of
@@ -121,5 +123,5 @@ pub unsafe extern "C" fn yalwythen_core_end(at: *mut u8)
     ensures* { sem 𝓛 (room_at domain_type.the_row at) }
 {
     let place = at as *mut Domain;
-    discard(place.read());
+    drop_domain(place.read());
 }

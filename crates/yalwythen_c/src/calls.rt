@@ -7,7 +7,7 @@ ghost use Rattle.txc_cmd_replay.specs.Rounds.{rounds};
 ghost use Rattle.yalwythen_domain.specs.Codes.{code_in};
 
 use std::alloc::Global;
-use yalwythen_domain::{Checkup, Replayed, check, is_bound, replay};
+use yalwythen_domain::{CheckResult, ReplayResult, check, is_bound, replay};
 
 /// Returns whether a bounded queue may have this bound, which is at most 65,535. Does not allocate.
 #[unsafe(no_mangle)]
@@ -20,10 +20,10 @@ pub extern "C" fn yalwythen_core_is_bound(bound: u64) -> bool
 /// Checks a script in JSON. Returns code 0 with the numbers of its channels and seats, or the code of its first fault
 /// with zeros; code 12 if an allocation fails. Allocates.
 #[unsafe(no_mangle)]
-pub extern "C" fn yalwythen_core_check(alloc: Global, script: &[u8]) -> Checkup
+pub extern "C" fn yalwythen_core_check(alloc: Global, script: &[u8]) -> CheckResult
     ensures code { result.code ≢ 12 → result.code ≡ code_in (script_in script.now) }
-    ensures counts { (said : Said) → script_in script.now ≡ Ok said → result.code ≡ 0
-        → (result.channels ≡ length said.decls) × (result.seats ≡ length said.seats) }
+    ensures counts { (parsed : Said) → script_in script.now ≡ Ok parsed → result.code ≡ 0
+        → (result.channels ≡ length parsed.decls) × (result.seats ≡ length parsed.seats) }
     ensures none { result.code ≢ 0 → (result.channels ≡ 0) × (result.seats ≡ 0) }
 {
     check(alloc, script)
@@ -33,9 +33,13 @@ pub extern "C" fn yalwythen_core_check(alloc: Global, script: &[u8]) -> Checkup
 /// report's length, or the code of the script's first fault; code 12 if an allocation fails, 13 if a channel is a
 /// broadcast, and 14 with the report's length if the report doesn't fit. Allocates.
 #[unsafe(no_mangle)]
-pub extern "C" fn yalwythen_core_replay(alloc: Global, script: &[u8], out: &mut [u8]) -> Replayed
-    ensures report { result.code ≡ 0 → (said : Said) → script_in script.now ≡ Ok said
-        → take result.length out.new ≡ text_of (rounds said) }
+pub extern "C" fn yalwythen_core_replay(
+    alloc: Global,
+    script: &[u8],
+    out: &mut [u8],
+) -> ReplayResult
+    ensures report { result.code ≡ 0 → (parsed : Said) → script_in script.now ≡ Ok parsed
+        → take result.length out.new ≡ text_of (rounds parsed) }
     ensures code { result.code < 12 → result.code ≡ code_in (script_in script.now) }
 {
     replay(alloc, script, out)

@@ -14,10 +14,10 @@ use Rattle.txc_txn.specs.Run.{RanSettled}
 use Rattle.txc_txn.specs.Transaction.{Ending, Kept as EndingKept, Again, Aborted, kept_tag, transaction}
 use Rattle.yalwythen_domain.specs.declared.channels.RunError.{RunError}
 use Rattle.yalwythen_domain.specs.declared.channels.RunError.TheVariants.{Faulty as HaltedFaulty, Stopped}
-use Rattle.yalwythen_domain.specs.declared.orders.Order.{Order}
+use Rattle.yalwythen_domain.specs.declared.raw_steps.RawStep.{RawStep}
 use Rattle.yalwythen_domain.specs.declared.call_result.CallResult.{CallResult}
 use Rattle.yalwythen_domain.specs.Channels.{DomainChannels}
-use Rattle.yalwythen_domain.specs.Ending.{ComesOfSteps, ComesTo, RanInDomain, last_after_came, said_of_came}
+use Rattle.yalwythen_domain.specs.Ending.{ComesOfSteps, ComesTo, RanInDomain, last_after_came, response_of_run}
 use Rattle.yalwythen_domain.specs.Written.{AreSteps}
 
 -- of steps in which a walk finds no fault comes what their transaction comes to
@@ -33,15 +33,17 @@ comes kinds kinds' steps tally tag result before before' after same_kinds same f
     (subst (λ (m : Map). ComesOfSteps (Fine tally) tag steps result m after) same to)
 
 -- a seat had steps run, where its tag and the channels are those that are named
-pub ran_in_domain : (tag : Tag) (tag' : Tag) (orders : List Order) (steps : List Step) (came : Result Ran RunError)
+pub ran_in_domain : (tag : Tag) (tag' : Tag) (raw_steps : List RawStep) (steps : List Step) (came : Result Ran RunError)
     (now : DomainChannels) (before : DomainChannels) (after : DomainChannels)
-    (old : Receipt) (new : Receipt) (said : CallResult) → tag' ≡ tag → now ≡ before → AreSteps orders steps
+    (old : Receipt) (new : Receipt) (response : CallResult) → tag' ≡ tag → now ≡ before → AreSteps raw_steps steps
     → ComesOfSteps (walk (slice_get now.kinds) steps) tag' steps came (chan_in now.held) (chan_in after.held)
     → after.kinds ≡ now.kinds
-    → new ≡ last_after_came came old → said ≡ said_of_came came → RanInDomain tag orders before after old new said
-ran_in_domain tag tag' orders steps came now before after old new said same_tag same are came_of kinds last answered =
-    subst (λ (t : Tag). RanInDomain t orders before after old new said) same_tag
-    (subst (λ (b : DomainChannels). RanInDomain tag' orders b after old new said) same
+    → new ≡ last_after_came came old → response ≡ response_of_run came
+    → RanInDomain tag raw_steps before after old new response
+ran_in_domain tag tag' raw_steps steps came now before after old new response same_tag same are came_of kinds last
+    answered =
+    subst (λ (t : Tag). RanInDomain t raw_steps before after old new response) same_tag
+    (subst (λ (b : DomainChannels). RanInDomain tag' raw_steps b after old new response) same
     (record {
       steps = steps;
       came = came;
@@ -74,7 +76,7 @@ retried (Aborted stop) tag declared cause before after ran = absurd ran
 
 -- steps that were not kept leave the channels as they were
 pub as_before : (walked : Walked) (tag : Tag) (steps : List Step) (result : Result Ran RunError) (before after : Map)
-    → ComesOfSteps walked tag steps result before after → (said_of_came result).code ≢ 0 → after ≡ before
+    → ComesOfSteps walked tag steps result before after → (response_of_run result).code ≢ 0 → after ≡ before
 as_before (Faulty fault) tag steps result before after came failed = came.1
 as_before (Fine tally) tag steps (Ok (Retry cause)) before after came failed =
     retried (transaction before tag tally.channels steps) (kept_tag before tag tally.channels) tally.channels cause

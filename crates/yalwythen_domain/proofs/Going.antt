@@ -11,11 +11,11 @@ use Rattle.txc_chan.specs.ChanView.{ChanView}
 use Rattle.txc_txn_check.specs.declared.step.Step.TheVariants.{Do}
 use Rattle.txc_txn.specs.declared.open_savepoint.OpenSavepoint.{OpenSavepoint}
 use Rattle.txc_txn.specs.declared.open_transaction.OpenTransaction.{OpenTransaction}
-use Rattle.txc_txn.specs.declared.path.Path.{Path}
+use Rattle.txc_txn.specs.declared.trace.Trace.{Trace}
 use Rattle.txc_txn.specs.Maps.{Map}
 use Rattle.txc_txn.specs.OpenTransaction.{IsMarkedSince}
 use Rattle.txc_txn.specs.Plain.{chan_in}
-use Rattle.txc_txn.specs.Run.{KeepsPath, state_of}
+use Rattle.txc_txn.specs.Run.{KeepsTrace, state_of}
 use Rattle.txc_txn.specs.Transaction.{Ending, Kept, Again, Aborted, State}
 use Rattle.txc_txn.specs.Transaction.{and_then, op_in, sequence, start, step_in, steps_in}
 use Rattle.txc_txn.proofs.Running.{step_in-Do}
@@ -47,13 +47,13 @@ one_operation_more tag (first ∷ ops) op state =
 
 -- a transaction that ran these operations has run one more
 pub goes_on : (began : Map) (ops : List Op) (op : Op) (old new : DomainChannels) → IsOpenAt began ops old
-    → op_in old.txn.tag op (state_of (chan_in old.held) old.txn.path)
-    ≡ Kept (state_of (chan_in new.held) new.txn.path)
+    → op_in old.txn.tag op (state_of (chan_in old.held) old.txn.trace)
+    ≡ Kept (state_of (chan_in new.held) new.txn.trace)
     → new.txn.tag ≡ old.txn.tag → IsMarkedSince [] new.txn began (chan_in new.held)
     → IsOpenAt began (ops ++ op ∷ []) new
 goes_on began ops op old new opened ran same marked = record {
   runs = subst (λ (tag : Tag). steps_in tag (map Do (ops ++ op ∷ [])) (start began)
-      ≡ Kept (state_of (chan_in new.held) new.txn.path)) (sym same)
+      ≡ Kept (state_of (chan_in new.held) new.txn.trace)) (sym same)
       (one_operation_more old.txn.tag ops op (start began)
       ∙ ap (λ (ending : Ending). and_then ending (op_in old.txn.tag op)) opened.runs ∙ ran);
   marked = marked;
@@ -69,33 +69,39 @@ still_front n front all more same front_is all_is =
     ∙ take-append-le n all (drop (length all) more) short ∙ front_is
 
 -- a savepoint stays where more ran
-pub still_saved : (point : OpenSavepoint) (at : Map) (path : Path) (old new : DomainChannels)
-    → KeepsPath old.txn.path new.txn.path
-    → (IsMarkedSince point.marks.items old.txn at (chan_in old.held)
-    → IsMarkedSince point.marks.items new.txn at (chan_in new.held))
-    → IsSavedAt point at path old → IsSavedAt point at path new
-still_saved point at path old new keeps marked saved = record {
+pub still_saved : (savepoint : OpenSavepoint) (at : Map) (trace : Trace) (old new : DomainChannels)
+    → KeepsTrace old.txn.trace new.txn.trace
+    → (IsMarkedSince savepoint.marks.items old.txn at (chan_in old.held)
+    → IsMarkedSince savepoint.marks.items new.txn at (chan_in new.held))
+    → IsSavedAt savepoint at trace old → IsSavedAt savepoint at trace new
+still_saved savepoint at trace old new keeps marked saved = record {
   marked = marked saved.marked;
   last = saved.last;
   counts = saved.counts;
-  replies = still_front point.replies path.replies.items old.txn.path.replies.items new.txn.path.replies.items
+  replies = still_front savepoint.replies trace.replies.items old.txn.trace.replies.items new.txn.trace.replies.items
       saved.counts.0 saved.replies keeps.0;
-  deeds = still_front point.deeds path.deeds.items old.txn.path.deeds.items new.txn.path.deeds.items
+  deeds = still_front savepoint.deeds trace.deeds.items old.txn.trace.deeds.items new.txn.trace.deeds.items
       saved.counts.1 saved.deeds keeps.1;
 }
 
 -- a savepoint is of where it was set
-pub saved_here : (point : OpenSavepoint) (held : List ChanView) (kinds : List Kind) (txn : OpenTransaction)
-    (points : List OpenSavepoint) → IsMarkedSince point.marks.items txn (chan_in held) (chan_in held)
-    → (point.last ≡ txn.path.last) × (point.replies ≡ length txn.path.replies.items)
-    × (point.deeds ≡ length txn.path.deeds.items)
-    → IsSavedAt point (chan_in held) txn.path (record { held = held; kinds = kinds; txn = txn; points = points })
-saved_here point held kinds txn points marked counts = record {
+pub saved_here : (savepoint : OpenSavepoint) (held : List ChanView) (kinds : List Kind) (txn : OpenTransaction)
+    (savepoints : List OpenSavepoint) → IsMarkedSince savepoint.marks.items txn (chan_in held) (chan_in held)
+    → (savepoint.last ≡ txn.trace.last) × (savepoint.replies ≡ length txn.trace.replies.items)
+    × (savepoint.deeds ≡ length txn.trace.deeds.items)
+    → IsSavedAt savepoint (chan_in held) txn.trace (record {
+      held = held;
+      kinds = kinds;
+      txn = txn;
+      savepoints =
+          savepoints;
+    })
+saved_here savepoint held kinds txn savepoints marked counts = record {
   marked = marked;
   last = counts.0;
   counts = (counts.1, counts.2);
-  replies = ap (λ n. take n txn.path.replies.items) counts.1 ∙ take-length txn.path.replies.items;
-  deeds = ap (λ n. take n txn.path.deeds.items) counts.2 ∙ take-length txn.path.deeds.items;
+  replies = ap (λ n. take n txn.trace.replies.items) counts.1 ∙ take-length txn.trace.replies.items;
+  deeds = ap (λ n. take n txn.trace.deeds.items) counts.2 ∙ take-length txn.trace.deeds.items;
 }
 
 -- two facts of what is well give a third one

@@ -102,10 +102,10 @@ one_more held held' kinds kind decl txn sound is front of = record {
 
 -- a transaction that just began: nothing ran yet
 pub open_first : (c : DomainChannels) (m : Map) (tag : Tag) → m ≡ chan_in c.held → c.txn.tag ≡ tag
-    → ((m : Map) → state_of m c.txn.path ≡ start m)
+    → ((m : Map) → state_of m c.txn.trace ≡ start m)
     → ((m : Map) → IsMarked tag c.txn.touched.items c.txn.marks.items m m) → IsOpenAt m [] c
 open_first c m tag same is starts marked = record {
-  runs = ap Kept (sym (starts m) ∙ ap (λ (x : Map). state_of x c.txn.path) same);
+  runs = ap Kept (sym (starts m) ∙ ap (λ (x : Map). state_of x c.txn.trace) same);
   marked = (
     omega arith,
     subst (λ (t : Tag). IsMarked t c.txn.touched.items c.txn.marks.items m (chan_in c.held)) (sym is)

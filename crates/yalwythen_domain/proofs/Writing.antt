@@ -1,4 +1,4 @@
--- What was read of an array of orders, while it is being read.
+-- What was read of an array of raw steps, while it is being read.
 use Rattle.std.proofs.Common.{◌≡◌, refl, subst, sym, ◌∙◌, ap, List, [], ◌∷◌, ◌++◌, map}
 use Rattle.std.proofs.Common.{ℕ, zero, suc, Option, Some, None, slice_get}
 use Rattle.std.proofs.Common.{inl, inr, nat_eq, false, ◌<◌, ◌≤◌, arith}
@@ -10,9 +10,9 @@ use Rattle.txc_base.specs.declared.op.Op.{Op}
 use Rattle.txc_txn_check.specs.declared.step.Step.{Step, fold-roll-Step}
 use Rattle.txc_txn_check.specs.declared.step.Step.TheOpen as Open
 use Rattle.txc_txn_check.specs.declared.step.Step.TheVariants.{Do, Or, Retry, rolls-Do, rolls-Or, rolls-Retry}
-use Rattle.yalwythen_domain.specs.declared.orders.Alternatives.{Alternatives}
-use Rattle.yalwythen_domain.specs.declared.orders.Order.{Order}
-use Rattle.yalwythen_domain.specs.Orders.{step_of, steps_with}
+use Rattle.yalwythen_domain.specs.declared.raw_steps.Alternatives.{Alternatives}
+use Rattle.yalwythen_domain.specs.declared.raw_steps.RawStep.{RawStep}
+use Rattle.yalwythen_domain.specs.RawSteps.{step_of, steps_with}
 use Rattle.yalwythen_domain.specs.Written.{Token, One, Begin, Next, End, all_of, branches_of, ended_branches}
 use Rattle.yalwythen_domain.specs.Written.{alternatives_tokens}
 use Rattle.yalwythen_domain.specs.Written.{more_branches, one_of, read_so_far, token_layer, token_of, tokens_in}
@@ -205,12 +205,12 @@ other_number number mark low high = elim (eqb_tells number mark) [
 ]
 
 -- an order that is a step is that token
-pub numbered : (order : Order) (step : Step) → step_of order ≡ Some step → token_of order ≡ Some (One step)
-numbered order step at =
-    let steps = steps_with order.chan order.reader order.body in
-    let low : order.number < 19 = slice_get_within steps order.number step at in
+pub numbered : (raw_step : RawStep) (step : Step) → step_of raw_step ≡ Some step → token_of raw_step ≡ Some (One step)
+numbered raw_step step at =
+    let steps = steps_with raw_step.chan raw_step.reader raw_step.body in
+    let low : raw_step.number < 19 = slice_get_within steps raw_step.number step at in
     rw (
-      other_number order.number 19 low (omega arith),
-      other_number order.number 20 low (omega arith),
-      other_number order.number 21 low (omega arith),
+      other_number raw_step.number 19 low (omega arith),
+      other_number raw_step.number 20 low (omega arith),
+      other_number raw_step.number 21 low (omega arith),
     ) (ap one_of at)

@@ -16,12 +16,12 @@ use Rattle.yalwythen_domain.specs.declared.account.Record.{Record}
 use Rattle.yalwythen_domain.specs.declared.call_result.CallResult.{CallResult}
 use Rattle.yalwythen_domain.specs.Channels.{DomainChannels}
 use Rattle.yalwythen_domain.specs.Domain.{DomainState}
-use Rattle.yalwythen_domain.specs.Opening.{is_open, refused_for}
+use Rattle.yalwythen_domain.specs.Opening.{is_open, rejected_for}
 
 -- the number of an item among those that came into its channel as it did
-abbrev pub number_of : Origin → ℕ
-number_of (Written number) = number
-number_of (Back number) = number
+abbrev pub origin_number : Origin → ℕ
+origin_number (Written number) = number
+origin_number (Back number) = number
 
 -- how an item came into its channel: 0 if it was written, 1 if it was put back
 abbrev pub origin_code : Origin → ℕ
@@ -33,7 +33,7 @@ abbrev pub item_record : ℕ → Tag → Item → Record
 item_record act tag item = record {
   stamp = tag.stamp;
   serial = tag.serial;
-  number = number_of item.origin;
+  number = origin_number item.origin;
   body = item.body;
   act = act;
   origin = origin_code item.origin;
@@ -96,11 +96,11 @@ domain_account channels chan = if nat_lt chan (2 ^ 16) then account_or_refusal (
 -- the account of a channel of a domain, whose logs are recorded or not; there is none while a transaction is open
 abbrev pub account_of_domain : Bool → DomainState → ℕ → Result Account ℕ
 account_of_domain records state chan =
-    if not records || is_open state.phase then Err 1 else domain_account state.channels chan
+    if not records || is_open state.status then Err 1 else domain_account state.channels chan
 
 -- the result of reading an account, and the array after it: records from `from` on, as many as fit, or no change
 abbrev pub HasRecords : Result Account ℕ → ℕ → List Record → List Record → CallResult → Type 0
-HasRecords (Err reason) from old new said = (said ≡ refused_for reason) × (new ≡ old)
-HasRecords (Ok account) from old new said = let rest = drop from (account_records account) in
-    (said ≡ record { code = 0; value = length (account_records account) })
+HasRecords (Err reason) from old new response = (response ≡ rejected_for reason) × (new ≡ old)
+HasRecords (Ok account) from old new response = let rest = drop from (account_records account) in
+    (response ≡ record { code = 0; value = length (account_records account) })
     × (take (min (length rest) (length old)) new ≡ take (min (length rest) (length old)) rest)

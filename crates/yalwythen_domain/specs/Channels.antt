@@ -12,7 +12,7 @@ pub record DomainChannels : Type 0 where
   pub held : List ChanView
   pub kinds : List Kind
   pub txn : OpenTransaction
-  pub points : List OpenSavepoint
+  pub savepoints : List OpenSavepoint
 
 -- how many acts were done on a channel, if it is there
 abbrev pub count_at : DomainChannels → ℕ → Option ℕ

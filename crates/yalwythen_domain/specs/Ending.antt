@@ -19,7 +19,7 @@ use Rattle.txc_txn.specs.Transaction.{Ending, Aborted, kept_tag, transaction}
 use Rattle.yalwythen_domain.specs.declared.channels.RunError.{RunError}
 use Rattle.yalwythen_domain.specs.declared.channels.RunError.TheVariants.{Faulty as HaltedFaulty, Stopped}
 use Rattle.yalwythen_domain.specs.Channels.{DomainChannels}
-use Rattle.yalwythen_domain.specs.declared.orders.Order.{Order}
+use Rattle.yalwythen_domain.specs.declared.raw_steps.RawStep.{RawStep}
 use Rattle.yalwythen_domain.specs.declared.call_result.CallResult.{CallResult}
 use Rattle.yalwythen_domain.specs.Written.{AreSteps}
 
@@ -43,15 +43,15 @@ cause_code Empty = 1
 cause_code Asked = 2
 
 -- the result of a transaction that ran: how many replies it has, or why it must be retried
-abbrev pub said_of_ran : Ran → CallResult
-said_of_ran (Kept receipt) = record { code = 0; value = length receipt.replies }
-said_of_ran (Retry cause) = record { code = 1; value = cause_code cause }
+abbrev pub response_of_ran : Ran → CallResult
+response_of_ran (Kept receipt) = record { code = 0; value = length receipt.replies }
+response_of_ran (Retry cause) = record { code = 1; value = cause_code cause }
 
 -- the result of steps that ended so
-abbrev pub said_of_came : Result Ran RunError → CallResult
-said_of_came (Ok ran) = said_of_ran ran
-said_of_came (Err (Stopped stop)) = record { code = 2; value = stop_code stop }
-said_of_came (Err (HaltedFaulty fault)) = record { code = 3; value = txn_fault_code fault }
+abbrev pub response_of_run : Result Ran RunError → CallResult
+response_of_run (Ok ran) = response_of_ran ran
+response_of_run (Err (Stopped stop)) = record { code = 2; value = stop_code stop }
+response_of_run (Err (HaltedFaulty fault)) = record { code = 3; value = txn_fault_code fault }
 
 -- the last receipt after a transaction ran
 abbrev pub last_after : Ran → Receipt → Receipt
@@ -77,14 +77,14 @@ abbrev pub last_after_came : Result Ran RunError → Receipt → Receipt
 last_after_came (Ok ran) last = last_after ran last
 last_after_came (Err error) last = last
 
--- a seat with this tag ran the steps of these orders: how they ended, the result, and the last receipt
-pub record RanInDomain (tag : Tag) (orders : List Order) (before : DomainChannels) (after : DomainChannels)
-    (old : Receipt) (new : Receipt) (said : CallResult) : Type 0 where
+-- a seat with this tag ran the steps of these raw steps: how they ended, the result, and the last receipt
+pub record RanInDomain (tag : Tag) (raw_steps : List RawStep) (before : DomainChannels) (after : DomainChannels)
+    (old : Receipt) (new : Receipt) (response : CallResult) : Type 0 where
   pub steps : List Step
   pub came : Result Ran RunError
-  pub are : AreSteps orders steps
+  pub are : AreSteps raw_steps steps
   pub comes : ComesOfSteps (walk (slice_get before.kinds) steps) tag steps came
       (chan_in before.held) (chan_in after.held)
   pub kinds : after.kinds ≡ before.kinds
   pub last : new ≡ last_after_came came old
-  pub answered : said ≡ said_of_came came
+  pub answered : response ≡ response_of_run came

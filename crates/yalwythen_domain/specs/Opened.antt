@@ -9,8 +9,8 @@ use Rattle.txc_txn_check.specs.declared.step.Step.TheVariants.{Do}
 use Rattle.txc_txn_check.specs.Walk.{Tally}
 use Rattle.txc_txn.specs.declared.open_savepoint.OpenSavepoint.{OpenSavepoint}
 use Rattle.txc_txn.specs.declared.open_transaction.OpenTransaction.{OpenTransaction}
-use Rattle.txc_txn.specs.declared.path.Flow.{Flow}
-use Rattle.txc_txn.specs.declared.path.Path.{Path}
+use Rattle.txc_txn.specs.declared.trace.StepOutcome.{StepOutcome}
+use Rattle.txc_txn.specs.declared.trace.Trace.{Trace}
 use Rattle.txc_txn.specs.Maps.{Map}
 use Rattle.txc_txn.specs.Opening.{HasKinds}
 use Rattle.txc_txn.specs.OpenTransaction.{IsMarkedSince}
@@ -30,7 +30,7 @@ pub record IsConsistent (held : List ChanView) (kinds : List Kind) (txn : OpenTr
 -- the open transaction began on this map, is the transaction of these operations so far, and can be undone
 pub record IsOpenAt (began : Map) (ops : List Op) (channels : DomainChannels) : Type 0 where
   pub runs : steps_in channels.txn.tag (map Do ops) (start began)
-      ≡ Kept (state_of (chan_in channels.held) channels.txn.path)
+      ≡ Kept (state_of (chan_in channels.held) channels.txn.trace)
   pub marked : IsMarkedSince [] channels.txn began (chan_in channels.held)
 
 -- no operation of a walk was seen before
@@ -38,11 +38,11 @@ abbrev pub untallied : Tally
 untallied = record { operations = 0; channels = [] }
 
 -- an operation of the open transaction ended as `op_in` defines it, or has a fault and did nothing
-abbrev pub HasApplied : Op → Result Flow RunError → DomainChannels → DomainChannels → Type 0
-HasApplied op (Ok flow) before after = op_in before.txn.tag op (state_of (chan_in before.held) before.txn.path)
-    ≡ ending_of flow (state_of (chan_in after.held) after.txn.path)
+abbrev pub HasApplied : Op → Result StepOutcome RunError → DomainChannels → DomainChannels → Type 0
+HasApplied op (Ok flow) before after = op_in before.txn.tag op (state_of (chan_in before.held) before.txn.trace)
+    ≡ ending_of flow (state_of (chan_in after.held) after.txn.trace)
 HasApplied op (Err (Stopped stop)) before after = stop ≢ NoMemory
-    → op_in before.txn.tag op (state_of (chan_in before.held) before.txn.path) ≡ Aborted stop
+    → op_in before.txn.tag op (state_of (chan_in before.held) before.txn.trace) ≡ Aborted stop
 HasApplied op (Err (HaltedFaulty fault)) before after = after ≡ before
 
 -- a fact of the fault, if that is why nothing was done
@@ -50,10 +50,10 @@ abbrev pub IfFaulty : RunError → (TxnFault → Type 0) → Type 0
 IfFaulty (HaltedFaulty fault) fact = fact fault
 IfFaulty (Stopped stop) fact = Unit {0}
 
--- the savepoint is of this map and this path, and the open transaction can be rolled back to them
-pub record IsSavedAt (point : OpenSavepoint) (at : Map) (path : Path) (channels : DomainChannels) : Type 0 where
-  pub marked : IsMarkedSince point.marks.items channels.txn at (chan_in channels.held)
-  pub last : point.last ≡ path.last
-  pub counts : (point.replies ≡ length path.replies.items) × (point.deeds ≡ length path.deeds.items)
-  pub replies : take point.replies channels.txn.path.replies.items ≡ path.replies.items
-  pub deeds : take point.deeds channels.txn.path.deeds.items ≡ path.deeds.items
+-- the savepoint is of this map and this trace, and the open transaction can be rolled back to them
+pub record IsSavedAt (savepoint : OpenSavepoint) (at : Map) (trace : Trace) (channels : DomainChannels) : Type 0 where
+  pub marked : IsMarkedSince savepoint.marks.items channels.txn at (chan_in channels.held)
+  pub last : savepoint.last ≡ trace.last
+  pub counts : (savepoint.replies ≡ length trace.replies.items) × (savepoint.deeds ≡ length trace.deeds.items)
+  pub replies : take savepoint.replies channels.txn.trace.replies.items ≡ trace.replies.items
+  pub deeds : take savepoint.deeds channels.txn.trace.deeds.items ≡ trace.deeds.items

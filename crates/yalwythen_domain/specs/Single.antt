@@ -2,8 +2,8 @@
 use Rattle.std.specs.Prelude.{List, [], ◌∷◌}
 use Rattle.txc_txn_check.specs.declared.step.Step.{Step}
 use Rattle.txc_txn_check.specs.declared.step.Step.TheVariants.{Do}
-use Rattle.yalwythen_domain.specs.declared.orders.Steps.{Steps}
-use Rattle.yalwythen_domain.specs.declared.orders.Steps.TheVariants.{One, Many}
+use Rattle.yalwythen_domain.specs.declared.raw_steps.Steps.{Steps}
+use Rattle.yalwythen_domain.specs.declared.raw_steps.Steps.TheVariants.{One, Many}
 
 -- the steps as a list
 abbrev pub list_of_steps : Steps → List Step

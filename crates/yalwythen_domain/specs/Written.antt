@@ -1,11 +1,11 @@
--- How an array of orders represents steps.
+-- How an array of raw steps represents steps.
 use Rattle.std.specs.Prelude.{◌≡◌, nat_eq, Option, Some, None, List, [], ◌∷◌, ◌++◌, map, if◌then◌else◌}
 use Rattle.txc_txn_check.specs.declared.step.Step.{Step, Step-F, fold-Step}
 use Rattle.txc_txn_check.specs.declared.step.Step.TheOpen as Open
 use Rattle.txc_txn_check.specs.declared.step.Step.TheVariants.{Do, Retry}
-use Rattle.yalwythen_domain.specs.declared.orders.Alternatives.{Alternatives}
-use Rattle.yalwythen_domain.specs.declared.orders.Order.{Order}
-use Rattle.yalwythen_domain.specs.Orders.{step_of}
+use Rattle.yalwythen_domain.specs.declared.raw_steps.Alternatives.{Alternatives}
+use Rattle.yalwythen_domain.specs.declared.raw_steps.RawStep.{RawStep}
+use Rattle.yalwythen_domain.specs.RawSteps.{step_of}
 
 -- what an order is: a step, the beginning of alternatives, the end of a branch before the next one, or their end
 pub data Token : Type 0 where
@@ -49,13 +49,13 @@ one_of (Some step) = Some (One step)
 one_of None = None
 
 -- what an order is, by its number
-abbrev pub token_of : Order → Option Token
-token_of order = if nat_eq order.number 19 then Some Begin else (if nat_eq order.number 20 then Some Next
-    else (if nat_eq order.number 21 then Some End else one_of (step_of order)))
+abbrev pub token_of : RawStep → Option Token
+token_of raw_step = if nat_eq raw_step.number 19 then Some Begin else (if nat_eq raw_step.number 20 then Some Next
+    else (if nat_eq raw_step.number 21 then Some End else one_of (step_of raw_step)))
 
--- these orders are these steps
-abbrev pub AreSteps : List Order → List Step → Type 0
-AreSteps orders steps = map token_of orders ≡ map Some (tokens_in steps)
+-- these raw steps are these steps
+abbrev pub AreSteps : List RawStep → List Step → Type 0
+AreSteps raw_steps steps = map token_of raw_steps ≡ map Some (tokens_in steps)
 
 -- branches that have ended
 abbrev pub ended_branches : List (List Step) → List Token

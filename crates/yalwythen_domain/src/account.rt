@@ -23,7 +23,8 @@ pub struct Record {
     pub maker: u16,
 }
 
-// The codes of acts and of origins are part of the C interface: the definitions and `bindings/` have them too.
+// The codes of acts and of origins are part of the C interface: the definitions and `bindings/` have them too. Only a
+// queue has an account in a domain: `BEGUN` and `CLONED` never occur there, and `bindings/` doesn't have them.
 
 const WROTE: u16 = 0;
 
@@ -143,7 +144,7 @@ fn record_at(account: &Account, place: usize) -> Option<Record>
 }
 
 /// Writes the records of an account from this place on to the front of an array, as many as fit.
-pub(crate) fn hand_out(account: &Account, from: u64, out: &mut [Record])
+pub(crate) fn copy_records(account: &Account, from: u64, out: &mut [Record])
     ensures { let rest = drop from (account_records account.now) in let count = min (length rest) (length out.old) in
         take count out.new ≡ take count rest }
 {

@@ -4,9 +4,9 @@ ghost use Rattle.yalwythen_domain.specs.Accounts.{HasRecords, account_of_domain}
 ghost use Rattle.yalwythen_domain.specs.Any.{AnswersRequest, IsNewDomain, TellsItems, TellsRecords, Transacts};
 
 use crate::account::{self, Record};
-use crate::call_result::{CallResult, DONE, NO_MEMORY, NO_SUCH, NOT_NOW, REFUSED, call_result};
+use crate::call_result::{CallResult, DONE, NO_MEMORY, NO_SUCH, NOT_NOW, REJECTED, call_result};
 use crate::domain::State;
-use crate::orders::Order;
+use crate::raw_steps::RawStep;
 use std::alloc::{AllocError, Global};
 use txc_chan::{FullLog, GhostLog};
 
@@ -33,32 +33,32 @@ impl Domain {
         Domain::Recorded(State::new(alloc))
     }
 
-    /// Performs the request with the number `verb`, and returns its result. The result's code is 4 if the request is
+    /// Performs the request with the number `request`, and returns its result. The result's code is 4 if the request is
     /// rejected or has another number, and 5 if an allocation fails.
-    pub fn ask(&mut self, verb: u64, a: u64, b: u64) -> CallResult
-        ensures { AnswersRequest verb a b self.old self.new result }
+    pub fn ask(&mut self, request: u64, a: u64, b: u64) -> CallResult
+        ensures { AnswersRequest request a b self.old self.new result }
     {
         match self {
-            Domain::Unrecorded(state) => or_no_memory(state.ask(verb, a, b)),
-            Domain::Recorded(state) => or_no_memory(state.ask(verb, a, b)),
+            Domain::Unrecorded(state) => or_no_memory(state.ask(request, a, b)),
+            Domain::Recorded(state) => or_no_memory(state.ask(request, a, b)),
         }
     }
 
-    /// Runs the steps in `orders` as one transaction of a seat. If the transaction commits, returns code 0 with the
+    /// Runs the steps in `raw_steps` as one transaction of a seat. If the transaction commits, returns code 0 with the
     /// number of replies, and the front of `replies` has as many of them as fit. Otherwise the code is 1 if the
     /// transaction must be retried, 2 if it aborts, 3 if the steps are invalid, 4 if the request is rejected, and 5 if
     /// an allocation fails; the channels are unchanged.
     pub fn transact(
         &mut self,
         seat: u64,
-        orders: &[Order],
+        raw_steps: &[RawStep],
         replies: &mut [CallResult],
     ) -> CallResult
-        ensures { Transacts seat orders.now self.old self.new replies.old replies.new result }
+        ensures { Transacts seat raw_steps.now self.old self.new replies.old replies.new result }
     {
         match self {
-            Domain::Unrecorded(state) => state.attempt(seat, orders, replies),
-            Domain::Recorded(state) => state.attempt(seat, orders, replies),
+            Domain::Unrecorded(state) => state.attempt(seat, raw_steps, replies),
+            Domain::Recorded(state) => state.attempt(seat, raw_steps, replies),
         }
     }
 
@@ -81,19 +81,19 @@ impl Domain {
         ensures { TellsRecords chan from self.now out.old out.new result }
     {
         match self {
-            Domain::Unrecorded(_) => call_result(REFUSED, NOT_NOW),
+            Domain::Unrecorded(_) => call_result(REJECTED, NOT_NOW),
             Domain::Recorded(state) => or_no_memory(account_of(state, chan, from, out)),
         }
     }
 }
 
 /// Returns the result, or code 5 if an allocation failed.
-fn or_no_memory(said: Result<CallResult, AllocError>) -> CallResult
-    ensures ok { IfOk said (λ it. result ≡ it) }
-    ensures err { OnErr said (result ≡ record { code = 5; value = 0 }) }
+fn or_no_memory(response: Result<CallResult, AllocError>) -> CallResult
+    ensures ok { IfOk response (λ it. result ≡ it) }
+    ensures err { OnErr response (result ≡ record { code = 5; value = 0 }) }
 {
-    match said {
-        Ok(said) => said,
+    match response {
+        Ok(response) => response,
         Err(_) => call_result(NO_MEMORY, 0),
     }
 }
@@ -106,30 +106,30 @@ fn account_of(
     from: u64,
     out: &mut [Record],
 ) -> Result<CallResult, AllocError>
-    ensures account { IfOk result (λ said.
-        HasRecords (account_of_domain true state.now chan) from out.old out.new said) }
-    ensures code { IfOk result (λ said. said.code ≢ 5) }
+    ensures account { IfOk result (λ response.
+        HasRecords (account_of_domain true state.now chan) from out.old out.new response) }
+    ensures code { IfOk result (λ response. response.code ≢ 5) }
 {
     if state.is_open() {
-        return Ok(call_result(REFUSED, NOT_NOW));
+        return Ok(call_result(REJECTED, NOT_NOW));
     }
     let Ok(chan) = u16::try_from(chan) else {
-        return Ok(call_result(REFUSED, NO_SUCH));
+        return Ok(call_result(REJECTED, NO_SUCH));
     };
     match state.channels.account(chan) {
         Ok(Some(account)) => {
-            account::hand_out(&account, from, out);
+            account::copy_records(&account, from, out);
             Ok(call_result(DONE, account::count(&account)))
         }
-        Ok(None) => Ok(call_result(REFUSED, NO_SUCH)),
+        Ok(None) => Ok(call_result(REJECTED, NO_SUCH)),
         Err(_) => Err(AllocError),
     }
 }
 
 /// Drops a value that any thread can have.
-fn let_go<T: Send + Drop>(_value: T) {}
+fn assert_send<T: Send + Drop>(_value: T) {}
 
 /// Drops a domain and frees its memory. That this compiles shows that a domain is `Send`.
-pub fn discard(domain: Domain) {
-    let_go(domain);
+pub fn drop_domain(domain: Domain) {
+    assert_send(domain);
 }

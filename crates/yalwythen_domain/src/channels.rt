@@ -14,12 +14,12 @@ ghost use Rattle.yalwythen_domain.specs.Channels.{count_at};
 ghost use Rattle.yalwythen_domain.specs.Ending.{ComesOfSteps};
 ghost use Rattle.yalwythen_domain.specs.Single.{list_of_steps};
 
-use crate::orders::Steps;
+use crate::raw_steps::Steps;
 use std::alloc::{AllocError, Global};
 use std::marker::Model;
 use txc_base::{Kind, Op, Stop, Tag};
-use txc_chan::{Account, Alone, ChanFault, Decl, FullLog, Log};
-use txc_txn::{OpenSavepoint, OpenTransaction, Plain, Ran, Receipt, run_held_over, run_one};
+use txc_chan::{Account, ChanFault, Decl, FullLog, Log, NonBlocking};
+use txc_txn::{OpenSavepoint, OpenTransaction, Plain, Ran, Receipt, run_held_reusing, run_one};
 use txc_txn_check::{Checked, Step, TxnFault};
 
 /// Why a transaction was not run, or aborted.
@@ -37,7 +37,7 @@ pub struct Channels<K: Log> {
     // Each transaction is checked against these kinds.
     pub(crate) kinds: Vec<Kind>,
     pub(crate) txn: OpenTransaction,
-    pub(crate) points: Vec<OpenSavepoint>,
+    pub(crate) savepoints: Vec<OpenSavepoint>,
 }
 
 impl<K: Log> Model for Channels<K> {
@@ -50,7 +50,7 @@ impl<K: Log> Model for Channels<K> {
       held = channels.plain;
       kinds = channels.kinds.items;
       txn = channels.txn;
-      points = channels.points.items;
+      savepoints = channels.savepoints.items;
     } };
 
     ghost invariant = { λ channels. IsConsistent channels.plain channels.kinds.items channels.txn };
@@ -67,7 +67,7 @@ pub(crate) const NO_TAG: Tag = Tag {
 fn run_on<K: Log>(
     plain: &mut Plain<K>,
     kinds: &[Kind],
-    spent: Receipt,
+    recycled: Receipt,
     tag: Tag,
     steps: Vec<Step>,
 ) -> Result<Ran, RunError>
@@ -82,7 +82,7 @@ fn run_on<K: Log>(
         Err(fault) => return Err(RunError::Faulty(fault)),
     };
     checked.show_fits(kinds);
-    match run_held_over(&Alone, spent, plain, tag, &checked) {
+    match run_held_reusing(&NonBlocking, recycled, plain, tag, &checked) {
         Ok(ran) => Ok(ran),
         Err(stop) => Err(RunError::Stopped(stop)),
     }
@@ -93,14 +93,14 @@ impl<K: Log> Channels<K> {
     pub(crate) fn new(alloc: Global) -> Channels<K>
         ensures held { result.held ≡ [] }
         ensures kinds { result.kinds ≡ [] }
-        ensures points { result.points ≡ [] }
+        ensures savepoints { result.savepoints ≡ [] }
     {
         Channels {
             alloc,
             plain: Plain::new(alloc),
             kinds: Vec::new(alloc),
             txn: OpenTransaction::begin(alloc, Receipt::blank(alloc), NO_TAG),
-            points: Vec::new(alloc),
+            savepoints: Vec::new(alloc),
         }
     }
 
@@ -116,7 +116,7 @@ impl<K: Log> Channels<K> {
         ensures err { IfErr result (λ fault. fault ≢ ChanFault.NoMemory
             → declared_fault decl.kind decl.bound decl.readers ≡ Some fault) }
         ensures unchanged { OnErr result (self.new ≡ self.old) }
-        ensures rest { (self.new.txn ≡ self.old.txn) × (self.new.points ≡ self.old.points) }
+        ensures rest { (self.new.txn ≡ self.old.txn) × (self.new.savepoints ≡ self.old.savepoints) }
     {
         let number = self.kinds.len() as u16;
         self.kinds.reserve(1)?;
@@ -168,7 +168,7 @@ impl<K: Log> Channels<K> {
             → IfOk result (λ is. IsImmediate (chan_in self.old.held) tag op.now → IsTrue is) }
         ensures unchanged { OnErr result ((chan_in self.new.held ≡ chan_in self.old.held) × (last.new ≡ last.old)) }
         ensures kinds { self.new.kinds ≡ self.old.kinds }
-        ensures rest { (self.new.txn ≡ self.old.txn) × (self.new.points ≡ self.old.points) }
+        ensures rest { (self.new.txn ≡ self.old.txn) × (self.new.savepoints ≡ self.old.savepoints) }
     {
         if let Err(_) = self.check(op) {
             return Ok(false);
@@ -177,44 +177,45 @@ impl<K: Log> Channels<K> {
     }
 
     /// Runs an operation as one transaction, like `run_many` with this only step. The tag is that of the seat's last
-    /// transaction, and the new receipt reuses the memory of `spent`.
-    fn run_one(&mut self, spent: Receipt, tag: Tag, op: &Op) -> Result<Ran, RunError>
+    /// transaction, and the new receipt reuses the memory of `recycled`.
+    fn run_one(&mut self, recycled: Receipt, tag: Tag, op: &Op) -> Result<Ran, RunError>
         ensures comes { let steps = Do op.now ∷ [] in ComesOfSteps (walk (slice_get self.old.kinds) steps) tag steps
             result (chan_in self.old.held) (chan_in self.new.held) }
         ensures kinds { self.new.kinds ≡ self.old.kinds }
-        ensures rest { (self.new.txn ≡ self.old.txn) × (self.new.points ≡ self.old.points) }
+        ensures rest { (self.new.txn ≡ self.old.txn) × (self.new.savepoints ≡ self.old.savepoints) }
     {
         if let Err(fault) = self.check(op) {
             return Err(RunError::Faulty(fault));
         }
-        match run_one(&Alone, spent, &mut self.plain, tag, op) {
+        match run_one(&NonBlocking, recycled, &mut self.plain, tag, op) {
             Ok(ended) => Ok(ended),
             Err(why) => Err(RunError::Stopped(why)),
         }
     }
 
     /// Runs steps as one transaction like `run`.
-    fn run_many(&mut self, spent: Receipt, tag: Tag, steps: Vec<Step>) -> Result<Ran, RunError>
+    fn run_many(&mut self, recycled: Receipt, tag: Tag, steps: Vec<Step>) -> Result<Ran, RunError>
         ensures comes { ComesOfSteps (walk (slice_get self.old.kinds) steps.items) tag steps.items result
             (chan_in self.old.held) (chan_in self.new.held) }
         ensures kinds { self.new.kinds ≡ self.old.kinds }
-        ensures rest { (self.new.txn ≡ self.old.txn) × (self.new.points ≡ self.old.points) }
+        ensures rest { (self.new.txn ≡ self.old.txn) × (self.new.savepoints ≡ self.old.savepoints) }
     {
-        run_on(&mut self.plain, self.kinds.as_slice(), spent, tag, steps)
+        run_on(&mut self.plain, self.kinds.as_slice(), recycled, tag, steps)
     }
 
-    /// Runs steps as one transaction with the tag of the seat's last one, in the memory of the receipt `spent`. Fails
+    /// Runs steps as one transaction with the tag of the seat's last one, in the memory of the receipt `recycled`.
+    /// Fails
     /// with the first fault that a check of the steps finds, or with the stop if the transaction aborts. After a retry
     /// or an error the channels are unchanged.
-    pub(crate) fn run(&mut self, spent: Receipt, tag: Tag, steps: Steps) -> Result<Ran, RunError>
+    pub(crate) fn run(&mut self, recycled: Receipt, tag: Tag, steps: Steps) -> Result<Ran, RunError>
         ensures comes { ComesOfSteps (walk (slice_get self.old.kinds) (list_of_steps steps)) tag (list_of_steps steps)
             result (chan_in self.old.held) (chan_in self.new.held) }
         ensures kinds { self.new.kinds ≡ self.old.kinds }
-        ensures rest { (self.new.txn ≡ self.old.txn) × (self.new.points ≡ self.old.points) }
+        ensures rest { (self.new.txn ≡ self.old.txn) × (self.new.savepoints ≡ self.old.savepoints) }
     {
         match steps {
-            Steps::One(op) => self.run_one(spent, tag, &op),
-            Steps::Many(steps) => self.run_many(spent, tag, steps),
+            Steps::One(op) => self.run_one(recycled, tag, &op),
+            Steps::Many(steps) => self.run_many(recycled, tag, steps),
         }
     }
 }

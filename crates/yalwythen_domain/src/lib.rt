@@ -13,13 +13,13 @@ mod domain;
 mod limits;
 mod numbers;
 mod open;
-mod orders;
+mod raw_steps;
 mod requests;
 mod script;
 
 pub use account::Record;
-pub use any::{Domain, discard};
+pub use any::{Domain, drop_domain};
 pub use call_result::CallResult;
 pub use numbers::is_bound;
-pub use orders::Order;
-pub use script::{Checkup, Replayed, check, replay};
+pub use raw_steps::RawStep;
+pub use script::{CheckResult, ReplayResult, check, replay};

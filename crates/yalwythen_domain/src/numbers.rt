@@ -1,12 +1,12 @@
 // Declarations, operations and replies by their numbers.
 ghost use Rattle.std.specs.Prelude.{◌≡◌, ◌≤◌, ◌↔◌, IsTrue, slice_get};
 ghost use Rattle.yalwythen_domain.specs.Ending.{cause_code};
-ghost use Rattle.yalwythen_domain.specs.Orders.{decls_with, said_of, steps_with};
+ghost use Rattle.yalwythen_domain.specs.RawSteps.{decls_with, response_of, steps_with};
 
 use crate::call_result::{
     ALL, CLOSED, COUNT, CallResult, DONE, EMPTY, FLAG, FULL, GOT, READER, call_result,
 };
-use txc_base::{Cause, Kind, MOST_BOUND, Op, Reply, Source};
+use txc_base::{Cause, Kind, MAX_BOUND, Op, Reply, Source};
 use txc_chan::Decl;
 use txc_txn_check::Step;
 
@@ -14,7 +14,7 @@ use txc_txn_check::Step;
 pub fn is_bound(bound: u64) -> bool
     ensures { IsTrue result ↔ bound ≤ 65535 }
 {
-    bound <= MOST_BOUND
+    bound <= MAX_BOUND
 }
 
 /// Returns the declaration of a channel of the kind with this number, or `None` if there is no such kind. `size` is the
@@ -90,7 +90,7 @@ pub(crate) fn cause_number(cause: Cause) -> u64
 
 /// Returns the code of a reply, and its body, flag, number or number of items. The codes are 0 to 8.
 pub(crate) fn tell(reply: &Reply) -> CallResult
-    ensures said { result ≡ said_of reply.now }
+    ensures response { result ≡ response_of reply.now }
     ensures there { result.code ≤ 8 }
 {
     match reply {

@@ -2,23 +2,23 @@
 ghost use Rattle.std.specs.Prelude.{◌≡◌, ◌≢◌, IfOk, IfErr, OnErr, take, min, map, length, drop};
 ghost use Rattle.std.specs.Prelude.{option_copied};
 ghost use Rattle.yalwythen_domain.specs.Channels.{is_closed_at, length_at, readers_at};
-ghost use Rattle.yalwythen_domain.specs.Opening.{closed_said, length_said, readers_said};
-ghost use Rattle.yalwythen_domain.specs.Orders.{HasItems, last_reply, reply_in};
+ghost use Rattle.yalwythen_domain.specs.Opening.{closed_response, length_response, readers_response};
+ghost use Rattle.yalwythen_domain.specs.RawSteps.{HasItems, last_reply, reply_in};
 ghost use Rattle.yalwythen_domain.specs.Requests.{HasAnswered, HasOpened, HasCommitted, HasGoneBack, HasReleased};
 ghost use Rattle.yalwythen_domain.specs.Requests.{HasRolledBack, HasRunOperation, HasRunStep, HasSaved};
-ghost use Rattle.yalwythen_domain.specs.Requests.{last_said, operation_in, phase_after, step_of_request};
+ghost use Rattle.yalwythen_domain.specs.Requests.{last_response, operation_in, status_after, step_of_request};
 
 use crate::call_result::{
-    CallResult, DONE, NO_REPLY, NO_SUCH, NOT_NOW, REFUSED, REPLIED, RETRY, STOPPED, call_result,
+    CallResult, DONE, NO_REPLY, NO_SUCH, NOT_NOW, REJECTED, REPLIED, RETRY, STOPPED, call_result,
 };
 use crate::channels::{Channels, RunError};
-use crate::domain::{Phase, State, said_of_error};
+use crate::domain::{State, TransactionStatus, response_of_error};
 use crate::numbers::{cause_number, decl_numbered, step_numbered, tell};
 use std::alloc::AllocError;
 use std::mem;
 use txc_base::{GREATEST_NUMBER, Item, Op, Reply, Stop, Tag};
 use txc_chan::Log;
-use txc_txn::{Flow, Ran, Receipt};
+use txc_txn::{Ran, Receipt, StepOutcome};
 use txc_txn_check::Step;
 
 /// The number with which `items` reads the last reply of the open transaction.
@@ -63,49 +63,49 @@ impl<K: Log> Channels<K> {
 
     /// Returns the last reply of the open transaction.
     fn last_reply(&self) -> Option<&Reply>
-        ensures { option_copied result ≡ last_reply self.now.txn.path.replies.items }
+        ensures { option_copied result ≡ last_reply self.now.txn.trace.replies.items }
     {
-        self.txn.path.replies.as_slice().last()
+        self.txn.trace.replies.as_slice().last()
     }
 }
 
 impl<K: Log> State<K> {
     /// Returns whether a channel is closed: code 0 with 1 or 0.
     pub(crate) fn is_closed(&self, chan: u64) -> CallResult
-        ensures { result ≡ closed_said self.now.channels chan }
+        ensures { result ≡ closed_response self.now.channels chan }
     {
         let Ok(chan) = u16::try_from(chan) else {
-            return call_result(REFUSED, NO_SUCH);
+            return call_result(REJECTED, NO_SUCH);
         };
         match self.channels.is_closed(chan) {
             Some(closed) => call_result(DONE, u64::from(closed)),
-            None => call_result(REFUSED, NO_SUCH),
+            None => call_result(REJECTED, NO_SUCH),
         }
     }
 
     /// Returns how many readers a channel has: code 0 with that number, which is 1 for a queue.
     pub(crate) fn readers(&self, chan: u64) -> CallResult
-        ensures { result ≡ readers_said self.now.channels chan }
+        ensures { result ≡ readers_response self.now.channels chan }
     {
         let Ok(chan) = u16::try_from(chan) else {
-            return call_result(REFUSED, NO_SUCH);
+            return call_result(REJECTED, NO_SUCH);
         };
         match self.channels.readers(chan) {
             Some(readers) => call_result(DONE, u64::from(readers)),
-            None => call_result(REFUSED, NO_SUCH),
+            None => call_result(REJECTED, NO_SUCH),
         }
     }
 
     /// Returns how many unread items a reader of a channel has: code 0 with that number.
     pub(crate) fn length(&self, chan: u64, reader: u64) -> Result<CallResult, AllocError>
-        ensures { IfOk result (λ said. said ≡ length_said self.now.channels chan reader) }
+        ensures { IfOk result (λ response. response ≡ length_response self.now.channels chan reader) }
     {
         let (Ok(chan), Ok(reader)) = (u16::try_from(chan), u16::try_from(reader)) else {
-            return Ok(call_result(REFUSED, NO_SUCH));
+            return Ok(call_result(REJECTED, NO_SUCH));
         };
         match self.channels.length(chan, reader) {
             Ok(Some(length)) => Ok(call_result(DONE, length)),
-            Ok(None) => Ok(call_result(REFUSED, NO_SUCH)),
+            Ok(None) => Ok(call_result(REJECTED, NO_SUCH)),
             Err(_) => Err(AllocError),
         }
     }
@@ -115,71 +115,71 @@ impl<K: Log> State<K> {
         ensures { HasOpened seat self.old self.new result }
     {
         if seat >= self.tags.len() as u64 {
-            return call_result(REFUSED, NO_SUCH);
+            return call_result(REJECTED, NO_SUCH);
         }
         if self.is_open() {
-            return call_result(REFUSED, NOT_NOW);
+            return call_result(REJECTED, NOT_NOW);
         }
         let tag = self.tags[seat as usize];
         if tag.serial == GREATEST_NUMBER || self.clock == GREATEST_NUMBER {
             return call_result(STOPPED, u64::from(Stop::Worn.code()));
         }
-        let spent = mem::replace(&mut self.spent, Receipt::blank(self.alloc));
+        let recycled = mem::replace(&mut self.recycled, Receipt::blank(self.alloc));
         let stamp = self.clock.saturating_add(1);
         self.channels.begin(
-            spent,
+            recycled,
             Tag {
                 seat: tag.seat,
                 serial: tag.serial,
                 stamp,
             },
         );
-        self.phase = Phase::Open;
+        self.status = TransactionStatus::Open;
         call_result(DONE, 0)
     }
 
     /// Runs an operation of the open transaction. Returns the code of the reply plus 16, with the value of the reply.
     /// After a retry or a stop, or if an allocation fails, the transaction must be rolled back.
     fn run_operation(&mut self, op: &Op) -> Result<CallResult, AllocError>
-        requires { self.old.phase ≡ Phase.Open }
-        ensures ok { IfOk result (λ said. HasRunOperation op.now self.old self.new said) }
-        ensures code { IfOk result (λ said. said.code ≢ 5) }
+        requires { self.old.status ≡ TransactionStatus.Open }
+        ensures ok { IfOk result (λ response. HasRunOperation op.now self.old self.new response) }
+        ensures code { IfOk result (λ response. response.code ≢ 5) }
         ensures err { OnErr result (HasRunOperation op.now self.old self.new (record { code = 5; value = 0 })) }
     {
         let ran = self.channels.apply(op);
-        self.phase = phase_after(&ran);
+        self.status = status_after(&ran);
         match ran {
-            Ok(Flow::Done) => Ok(self.last_reply()),
-            Ok(Flow::Again(cause)) => Ok(call_result(RETRY, cause_number(cause))),
-            Err(error) => said_of_error(error),
+            Ok(StepOutcome::Done) => Ok(self.last_reply()),
+            Ok(StepOutcome::Retry(cause)) => Ok(call_result(RETRY, cause_number(cause))),
+            Err(error) => response_of_error(error),
         }
     }
 
     /// Runs the operation whose number, channel and reader are in `a`, like `run_operation`.
     pub(crate) fn apply(&mut self, a: u64, body: u64) -> Result<CallResult, AllocError>
-        ensures ok { IfOk result (λ said. HasRunStep (step_of_request a body) self.old self.new said) }
-        ensures code { IfOk result (λ said. said.code ≢ 5) }
+        ensures ok { IfOk result (λ response. HasRunStep (step_of_request a body) self.old self.new response) }
+        ensures code { IfOk result (λ response. response.code ≢ 5) }
         ensures err { OnErr result (HasRunStep (step_of_request a body) self.old self.new
             (record { code = 5; value = 0 })) }
     {
-        if !matches!(self.phase, Phase::Open) {
-            return Ok(call_result(REFUSED, NOT_NOW));
+        if !matches!(self.status, TransactionStatus::Open) {
+            return Ok(call_result(REJECTED, NOT_NOW));
         }
         let Some(op) = operation_of(a, body) else {
-            return Ok(call_result(REFUSED, NO_SUCH));
+            return Ok(call_result(REJECTED, NO_SUCH));
         };
         self.run_operation(&op)
     }
 
     /// Returns the last reply of the open transaction, with its code plus 16.
     fn last_reply(&self) -> CallResult
-        ensures said { result ≡ last_said (last_reply self.now.channels.txn.path.replies.items) }
+        ensures response { result ≡ last_response (last_reply self.now.channels.txn.trace.replies.items) }
         ensures code { result.code ≢ 5 }
     {
         match self.channels.last_reply() {
             Some(reply) => {
-                let said = tell(reply);
-                call_result(REPLIED + said.code, said.value)
+                let response = tell(reply);
+                call_result(REPLIED + response.code, response.value)
             }
             None => call_result(NO_REPLY, 0),
         }
@@ -187,12 +187,12 @@ impl<K: Log> State<K> {
 
     /// Sets a savepoint of the open transaction: code 0 with how many there are.
     pub(crate) fn set_savepoint(&mut self) -> Result<CallResult, AllocError>
-        ensures ok { IfOk result (λ said. HasSaved self.old self.new said) }
-        ensures code { IfOk result (λ said. said.code ≢ 5) }
-        ensures err { OnErr result ((self.old.phase ≡ Phase.Open) × (self.new ≡ self.old)) }
+        ensures ok { IfOk result (λ response. HasSaved self.old self.new response) }
+        ensures code { IfOk result (λ response. response.code ≢ 5) }
+        ensures err { OnErr result ((self.old.status ≡ TransactionStatus.Open) × (self.new ≡ self.old)) }
     {
-        if !matches!(self.phase, Phase::Open) {
-            return Ok(call_result(REFUSED, NOT_NOW));
+        if !matches!(self.status, TransactionStatus::Open) {
+            return Ok(call_result(REJECTED, NOT_NOW));
         }
         let count = self.channels.set_savepoint()?;
         Ok(call_result(DONE, count as u64))
@@ -205,10 +205,10 @@ impl<K: Log> State<K> {
         ensures { HasGoneBack self.old self.new result }
     {
         if !self.is_open() || !self.channels.roll_back_to_savepoint() {
-            return call_result(REFUSED, NOT_NOW);
+            return call_result(REJECTED, NOT_NOW);
         }
-        self.phase = Phase::Open;
-        call_result(DONE, self.channels.savepoints() as u64)
+        self.status = TransactionStatus::Open;
+        call_result(DONE, self.channels.savepoint_count() as u64)
     }
 
     /// Removes the last savepoint of the open transaction: code 0 with how many are left.
@@ -216,19 +216,19 @@ impl<K: Log> State<K> {
         ensures { HasReleased self.old self.new result }
     {
         if !self.is_open() || !self.channels.release_savepoint() {
-            return call_result(REFUSED, NOT_NOW);
+            return call_result(REJECTED, NOT_NOW);
         }
-        call_result(DONE, self.channels.savepoints() as u64)
+        call_result(DONE, self.channels.savepoint_count() as u64)
     }
 
     /// Commits the open transaction: code 0 with how many replies it has.
     pub(crate) fn commit(&mut self) -> CallResult
         ensures { HasCommitted self.old self.new result }
     {
-        if !matches!(self.phase, Phase::Open) {
-            return call_result(REFUSED, NOT_NOW);
+        if !matches!(self.status, TransactionStatus::Open) {
+            return call_result(REJECTED, NOT_NOW);
         }
-        self.phase = Phase::Closed;
+        self.status = TransactionStatus::Idle;
         let receipt = self.channels.commit();
         let seat = u64::from(receipt.tag.seat);
         self.note(seat, Ran::Kept(receipt))
@@ -239,9 +239,9 @@ impl<K: Log> State<K> {
         ensures { HasRolledBack self.old self.new result }
     {
         if !self.is_open() {
-            return call_result(REFUSED, NOT_NOW);
+            return call_result(REJECTED, NOT_NOW);
         }
-        self.phase = Phase::Closed;
+        self.status = TransactionStatus::Idle;
         self.channels.roll_back();
         call_result(DONE, 0)
     }
@@ -266,13 +266,13 @@ impl<K: Log> State<K> {
         }
     }
 
-    /// Performs the request with the number `verb`.
-    pub(crate) fn ask(&mut self, verb: u64, a: u64, b: u64) -> Result<CallResult, AllocError>
-        ensures ok { IfOk result (λ said. HasAnswered verb a b K.shelves self.old self.new said) }
-        ensures err { OnErr result (HasAnswered verb a b K.shelves self.old self.new
+    /// Performs the request with the number `request`.
+    pub(crate) fn ask(&mut self, request: u64, a: u64, b: u64) -> Result<CallResult, AllocError>
+        ensures ok { IfOk result (λ response. HasAnswered request a b K.shelves self.old self.new response) }
+        ensures err { OnErr result (HasAnswered request a b K.shelves self.old self.new
             (record { code = 5; value = 0 })) }
     {
-        match verb {
+        match request {
             0 => self.declare(decl_numbered(a, b)),
             1 => self.add_seat(),
             2 => Ok(self.reply(a)),
@@ -287,20 +287,20 @@ impl<K: Log> State<K> {
             11 => Ok(self.commit()),
             12 => Ok(self.roll_back()),
             13 => Ok(self.readers(a)),
-            _ => Ok(call_result(REFUSED, NO_SUCH)),
+            _ => Ok(call_result(REJECTED, NO_SUCH)),
         }
     }
 }
 
 /// Returns whether the open transaction goes on after an operation. After a retry or a stop it must be rolled back.
-fn phase_after(ran: &Result<Flow, RunError>) -> Phase
-    ensures { result ≡ phase_after ran.now }
+fn status_after(ran: &Result<StepOutcome, RunError>) -> TransactionStatus
+    ensures { result ≡ status_after ran.now }
 {
     match ran {
-        Ok(Flow::Done) => Phase::Open,
-        Ok(Flow::Again(_)) => Phase::Failed,
-        Err(RunError::Faulty(_)) => Phase::Open,
-        Err(RunError::Stopped(_)) => Phase::Failed,
+        Ok(StepOutcome::Done) => TransactionStatus::Open,
+        Ok(StepOutcome::Retry(_)) => TransactionStatus::Failed,
+        Err(RunError::Faulty(_)) => TransactionStatus::Open,
+        Err(RunError::Stopped(_)) => TransactionStatus::Failed,
     }
 }
 

@@ -8,14 +8,14 @@ ghost use Rattle.yalwythen_domain.specs.Codes.{code_in};
 ghost use Rattle.yalwythen_domain.specs.Opening.{has_broadcast};
 
 use std::alloc::Global;
-use txc_chan::{Alone, Decl};
+use txc_chan::{Decl, NonBlocking};
 use txc_cmd_replay::replay_text;
 use txc_cmd_script::read_script;
 
 /// The result of a check: the code of the script's first fault, or code 0 with the numbers of its channels and seats.
 #[repr(C)]
 #[derive(Clone, Copy)]
-pub struct Checkup {
+pub struct CheckResult {
     pub code: u64,
     pub channels: u64,
     pub seats: u64,
@@ -27,7 +27,7 @@ pub struct Checkup {
 /// does not fit.
 #[repr(C)]
 #[derive(Clone, Copy)]
-pub struct Replayed {
+pub struct ReplayResult {
     pub code: u64,
     pub length: u64,
 }
@@ -40,19 +40,19 @@ const TOO_SHORT: u64 = 14;
 
 /// Checks a script in JSON. Returns code 0 with the numbers of its channels and seats, or the code of its first fault
 /// with zeros; code 12 if an allocation fails.
-pub fn check(alloc: Global, script: &[u8]) -> Checkup
+pub fn check(alloc: Global, script: &[u8]) -> CheckResult
     ensures code { result.code ≢ 12 → result.code ≡ code_in (script_in script.now) }
-    ensures counts { (said : Said) → script_in script.now ≡ Ok said → result.code ≡ 0
-        → (result.channels ≡ length said.decls) × (result.seats ≡ length said.seats) }
+    ensures counts { (parsed : Said) → script_in script.now ≡ Ok parsed → result.code ≡ 0
+        → (result.channels ≡ length parsed.decls) × (result.seats ≡ length parsed.seats) }
     ensures none { result.code ≢ 0 → (result.channels ≡ 0) × (result.seats ≡ 0) }
 {
     match read_script(alloc, script) {
-        Ok(script) => Checkup {
+        Ok(script) => CheckResult {
             code: 0,
             channels: script.decls().len() as u64,
             seats: script.seats().len() as u64,
         },
-        Err(fault) => Checkup {
+        Err(fault) => CheckResult {
             code: u64::from(fault.code()),
             channels: 0,
             seats: 0,
@@ -61,28 +61,28 @@ pub fn check(alloc: Global, script: &[u8]) -> Checkup
 }
 
 /// Returns a code, with length 0.
-fn refused(code: u64) -> Replayed
+fn refused(code: u64) -> ReplayResult
     ensures { result.code ≡ code }
 {
-    Replayed { code, length: 0 }
+    ReplayResult { code, length: 0 }
 }
 
 /// Writes a text to the front of the caller's bytes, if it fits. Returns its length, with code 0, or with code 14 if it
 /// does not fit.
-fn hand_out(text: &[u8], out: &mut [u8]) -> Replayed
+fn copy_text(text: &[u8], out: &mut [u8]) -> ReplayResult
     ensures fits { result.code ≡ 0 → result.length ≡ length text.now }
     ensures text { result.code ≡ 0 → take result.length out.new ≡ text.now }
     ensures code { result.code < 14 → result.code ≡ 0 }
 {
     let length = text.len();
     if length > out.len() {
-        return Replayed {
+        return ReplayResult {
             code: TOO_SHORT,
             length: length as u64,
         };
     }
     out[..length].copy_from_slice(text);
-    Replayed {
+    ReplayResult {
         code: 0,
         length: length as u64,
     }
@@ -98,9 +98,9 @@ fn has_broadcast(decls: &[Decl]) -> bool
 /// Replays a script in JSON in one thread, and writes its report to the front of `out`. Returns code 0 with the
 /// report's length, or the code of the script's first fault; code 12 if an allocation fails, 13 if a channel is a
 /// broadcast, and 14 with the report's length if the report doesn't fit.
-pub fn replay(alloc: Global, script: &[u8], out: &mut [u8]) -> Replayed
-    ensures report { result.code ≡ 0 → (said : Said) → script_in script.now ≡ Ok said
-        → take result.length out.new ≡ text_of (rounds said) }
+pub fn replay(alloc: Global, script: &[u8], out: &mut [u8]) -> ReplayResult
+    ensures report { result.code ≡ 0 → (parsed : Said) → script_in script.now ≡ Ok parsed
+        → take result.length out.new ≡ text_of (rounds parsed) }
     ensures code { result.code < 12 → result.code ≡ code_in (script_in script.now) }
 {
     let script = match read_script(alloc, script) {
@@ -110,8 +110,8 @@ pub fn replay(alloc: Global, script: &[u8], out: &mut [u8]) -> Replayed
     if has_broadcast(script.decls()) {
         return refused(BROADCAST);
     }
-    match replay_text(&Alone, alloc, &script) {
-        Ok(text) => hand_out(text.as_bytes(), out),
+    match replay_text(&NonBlocking, alloc, &script) {
+        Ok(text) => copy_text(text.as_bytes(), out),
         Err(_) => refused(NO_MEMORY),
     }
 }

@@ -8,11 +8,11 @@ use Rattle.txc_txn_check.specs.Limits.{IsChecked, CheckedView}
 use Rattle.txc_txn_check.specs.Walk.{Faulty, walk}
 use Rattle.txc_txn_check.specs.declared.fault.TxnFault.{TxnFault}
 use Rattle.txc_txn_check.specs.declared.step.Step.{Step}
-use Rattle.yalwythen_work.specs.Asked.{HasFailedWith, IsTried, kept_after}
+use Rattle.yalwythen_work.specs.Committed.{HasFailedWith, IsTried, kept_after}
 use Rattle.yalwythen_work.specs.Session.{SessionView}
 use Rattle.yalwythen_work.specs.Plans.{PlansView}
 use Rattle.yalwythen_work.specs.declared.transact_error.TransactError.TheVariants.{Unfit, Stalled, Stopped}
-use Rattle.txc_table_seat.specs.Seated.{Sitting, next_tag}
+use Rattle.txc_table_seat.specs.Seated.{SeatCommits, next_tag}
 use Rattle.txc_chan.specs.declared.decl.Decl.{Decl}
 use Rattle.txc_table.specs.Seat.{SeatView, seen_at}
 use Rattle.txc_table.specs.Table.{TableView, decls_of}
@@ -24,35 +24,36 @@ use Rattle.txc_txn.specs.Transaction.{transaction}
 use Rattle.txc_txn.specs.Transaction.{Aborted as AbortsWith}
 
 -- a session of these
-abbrev pub session_of : TableView → Sitting → PlansView → SessionView
-session_of table seat book = record {
+abbrev pub session_of : TableView → SeatCommits → PlansView → SessionView
+session_of table seat ledger = record {
   table = table;
   seat = seat;
-  notes = book.notes;
-  plans = book.kept;
-  prepared = book.prepared;
+  audited = ledger.audited;
+  plans = ledger.kept;
+  prepared = ledger.prepared;
 }
 
 -- what a try through this seat gave on some channels, and its effect on the seat
 abbrev pub IsTriedAt : List Decl → SeatView → CheckedView → Tried → SeatView → Type 0
-IsTriedAt decls seat plan tried after = (m : Map) × AreFound decls seat.sitting.receipts (seen_at seat) m
-    × Tells m seat.sitting plan tried after.sitting
+IsTriedAt decls seat plan tried after = (m : Map) × AreFound decls seat.commits.receipts (seen_at seat) m
+    × Tells m seat.commits plan tried after.commits
 
 -- some channels on which a transaction through this seat stops like this
 abbrev pub IsStoppedAt : List Decl → SeatView → CheckedView → Stop → Type 0
-IsStoppedAt decls seat plan stop = (m : Map) × AreFound decls seat.sitting.receipts (seen_at seat) m
-    × (transaction m (next_tag seat.sitting) plan.declared plan.steps ≡ AbortsWith stop)
+IsStoppedAt decls seat plan stop = (m : Map) × AreFound decls seat.commits.receipts (seen_at seat) m
+    × (transaction m (next_tag seat.commits) plan.declared plan.steps ≡ AbortsWith stop)
 
 -- a try, as the session has it
-pub asks : (table : TableView) (seat after : SeatView) (book book' : PlansView) (steps : List Step) (plan : CheckedView)
+pub asks : (table : TableView) (seat after : SeatView) (ledger ledger' : PlansView) (steps : List Step)
+    (plan : CheckedView)
     (tried : Tried) (before : SessionView)
-    → session_of table seat.sitting book ≡ before → plan.steps ≡ steps → IsChecked plan
-    → book'.kept ≡ kept_after book.notes book.kept plan tried
-    → book'.notes ≡ book.notes → book'.prepared ≡ book.prepared
+    → session_of table seat.commits ledger ≡ before → plan.steps ≡ steps → IsChecked plan
+    → ledger'.kept ≡ kept_after ledger.audited ledger.kept plan tried
+    → ledger'.audited ≡ ledger.audited → ledger'.prepared ≡ ledger.prepared
     → IsTriedAt (decls_of table.lines) seat plan tried after
-    → IsTried before steps tried (session_of table after.sitting book')
-asks table seat after book book' steps plan tried before is same checked kept notes prepared found =
-    subst (λ (d : SessionView). IsTried d steps tried (session_of table after.sitting book')) is
+    → IsTried before steps tried (session_of table after.commits ledger')
+asks table seat after ledger ledger' steps plan tried before is same checked kept audited prepared found =
+    subst (λ (d : SessionView). IsTried d steps tried (session_of table after.commits ledger')) is
     (record {
       plan = plan;
       its = same;
@@ -62,45 +63,45 @@ asks table seat after book book' steps plan tried before is same checked kept no
       tells = found.2;
       same = refl;
       kept = kept;
-      notes = notes;
+      audited = audited;
       prepared = prepared;
     })
 
 -- a stall
-pub stalls : (table : TableView) (seat after : SeatView) (book : PlansView) (steps : List Step) (plan : CheckedView)
+pub stalls : (table : TableView) (seat after : SeatView) (ledger : PlansView) (steps : List Step) (plan : CheckedView)
     (cause : Cause) (before : SessionView)
-    → session_of table seat.sitting book ≡ before → plan.steps ≡ steps → IsChecked plan
+    → session_of table seat.commits ledger ≡ before → plan.steps ≡ steps → IsChecked plan
     → IsTriedAt (decls_of table.lines) seat plan (Retry cause) after
     → HasFailedWith before steps (Stalled cause)
-stalls table seat after book steps plan cause before is same checked found =
+stalls table seat after ledger steps plan cause before is same checked found =
     subst (λ (d : SessionView). HasFailedWith d steps (Stalled cause)) is
     (plan, same, checked, (found.0, found.1.0, found.2.1))
 
 -- a stop
-pub stops : (table : TableView) (seat : SeatView) (book : PlansView) (steps : List Step) (plan : CheckedView)
+pub stops : (table : TableView) (seat : SeatView) (ledger : PlansView) (steps : List Step) (plan : CheckedView)
     (stop : Stop)
     (before : SessionView)
-    → session_of table seat.sitting book ≡ before → plan.steps ≡ steps → IsChecked plan
+    → session_of table seat.commits ledger ≡ before → plan.steps ≡ steps → IsChecked plan
     → (stop ≢ NoMemory → IsStoppedAt (decls_of table.lines) seat plan stop)
     → HasFailedWith before steps (Stopped stop)
-stops table seat book steps plan stop before is same checked found =
+stops table seat ledger steps plan stop before is same checked found =
     subst (λ (d : SessionView). HasFailedWith d steps (Stopped stop)) is
     (λ other. (let stopped = found other in (plan, same, checked, (stopped.0, stopped.1.0, stopped.2))))
 
 -- steps that are no transaction
-pub unfits : (table : TableView) (seat : SeatView) (book : PlansView) (steps : List Step) (kinds : List Kind)
+pub unfits : (table : TableView) (seat : SeatView) (ledger : PlansView) (steps : List Step) (kinds : List Kind)
     (fault : TxnFault) (before : SessionView)
-    → session_of table seat.sitting book ≡ before → kinds ≡ table.kinds → walk (slice_get kinds) steps ≡ Faulty fault
+    → session_of table seat.commits ledger ≡ before → kinds ≡ table.kinds → walk (slice_get kinds) steps ≡ Faulty fault
     → HasFailedWith before steps (Unfit fault)
-unfits table seat book steps kinds fault before is same walked =
+unfits table seat ledger steps kinds fault before is same walked =
     subst (λ (d : SessionView). HasFailedWith d steps (Unfit fault)) is
     (subst (λ (ks : List Kind). walk (slice_get ks) steps ≡ Faulty fault) same walked)
 
 -- a prepared transaction, as the session has it
-pub is_there : (table : TableView) (seat : SeatView) (book book' : PlansView) (n : ℕ) (plan : CheckedView)
+pub is_there : (table : TableView) (seat : SeatView) (ledger ledger' : PlansView) (n : ℕ) (plan : CheckedView)
     (before : SessionView)
-    → session_of table seat.sitting book ≡ before → book'.prepared ≡ book.prepared
-    → slice_get book'.prepared n ≡ Some plan → slice_get before.prepared n ≡ Some plan
-is_there table seat book book' n plan before is same there =
+    → session_of table seat.commits ledger ≡ before → ledger'.prepared ≡ ledger.prepared
+    → slice_get ledger'.prepared n ≡ Some plan → slice_get before.prepared n ≡ Some plan
+is_there table seat ledger ledger' n plan before is same there =
     subst (λ (d : SessionView). slice_get d.prepared n ≡ Some plan) is
     (subst (λ (ps : List CheckedView). slice_get ps n ≡ Some plan) same there)

@@ -7,7 +7,7 @@ use native.Mathlib.Decide.{ℕ_discrete}
 use lib.ListN.{get_elem?}
 use Rattle.atomic_table.specs.Table.{State, keeps, takes, gives, Allows, Arrives, Final}
 use Rattle.atomic_table.proofs.Lists.{set_here}
-use Rattle.yalwythen_work.specs.OneShot.{HasVacancy, IsKept}
+use Rattle.yalwythen_work.specs.OneShot.{HasEmptySlot, IsKept}
 use Rattle.yalwythen_work.specs.declared.states.TheConstants.{CLAIMED, EMPTY, FULL}
 
 -- a number that is found at a place is read there
@@ -28,7 +28,7 @@ module _ {X V : Type 0} (fits : X → Type 0) where
 
   -- a step that finds an empty cell takes its slot
   pub claims_it : (slots : ℕ) (view : V)
-      → Arrives {V = V} (IsKept fits) slots 0 (λ _. CLAIMED) (λ found after. found ≡ EMPTY → HasVacancy after)
+      → Arrives {V = V} (IsKept fits) slots 0 (λ _. CLAIMED) (λ found after. found ≡ EMPTY → HasEmptySlot after)
   claims_it slots view s kept wide below =
       let reads = written s CLAIMED kept in
       dite (ℕ_discrete (get_or s.words 0 0) EMPTY)

@@ -9,39 +9,40 @@ use Rattle.txc_txn_check.specs.Limits.{CheckedView}
 use Rattle.txc_table_report.specs.Sorted.{AreTakenOnce}
 use Rattle.txc_txn_history.specs.Events.{Event}
 use Rattle.txc_txn_history.specs.OneOrder.{IsOneOrder}
-use Rattle.txc_table_seat.specs.Seated.{Sitting}
+use Rattle.txc_table_seat.specs.Seated.{SeatCommits}
 use Rattle.txc_txn.specs.declared.report.Report.{Report}
 use Rattle.txc_table.specs.Built.{IsBuilt}
 use Rattle.txc_table.specs.Finished.{IsFinished, IsFinishedInSummary, IsOneHistory}
-use Rattle.txc_table.specs.Seat.{SeatView, LeftSeatView, sittings_of}
-use Rattle.txc_table.specs.Refused.{AreBack}
+use Rattle.txc_table.specs.Seat.{SeatView, DepartedSeatView, commits_of}
+use Rattle.txc_table.specs.Refused.{AreAllSeats}
 use Rattle.txc_table.specs.Table.{TableLines, TableView}
-use Rattle.txc_table.proofs.Left.{are_of, none_missing, reports, sitting_at}
+use Rattle.txc_table.proofs.Left.{are_of, none_missing, reports, commits_at}
 use Rattle.txc_base_threads.proofs.Added.{some_of}
 use Rattle.yalwythen_work.specs.Plans.{PlansView}
 use Rattle.yalwythen_work.specs.Ran.{IsRun, IsService}
 
 -- as many seats as a table has, each at its number, are all back
-pub all_back : (lines : TableLines) (seats : ℕ) (left : List LeftSeatView) → length left ≡ seats
-    → ((k : ℕ) (l : LeftSeatView) → k < seats → (slice_index_or left k l).sitting.number ≡ k)
-    → ((k : ℕ) (l : LeftSeatView) → k < seats → (slice_index_or left k l).lines ≡ lines) → AreBack lines seats left
+pub all_back : (lines : TableLines) (seats : ℕ) (left : List DepartedSeatView) → length left ≡ seats
+    → ((k : ℕ) (l : DepartedSeatView) → k < seats → (slice_index_or left k l).commits.number ≡ k)
+    → ((k : ℕ) (l : DepartedSeatView) → k < seats → (slice_index_or left k l).lines ≡ lines)
+    → AreAllSeats lines seats left
 all_back lines seats left many numbered of = record {
   of = are_of lines left (λ k l below. of k l (subst (λ n. k < n) many below));
   all = none_missing seats left many numbered;
 }
 
-module _ (table : TableView) (decls : List Decl) (seats : ℕ) (made : List SeatView) (left : List LeftSeatView) where
+module _ (table : TableView) (decls : List Decl) (seats : ℕ) (made : List SeatView) (left : List DepartedSeatView) where
   -- a finished table that was made for these channels and seats is one history on these channels
   pub on_declared : (report : Report) → IsBuilt decls seats table made → IsFinished table left report
-      → IsOneHistory decls (sittings_of left) report
+      → IsOneHistory decls (commits_of left) report
   on_declared report built is =
-      subst (λ (ds : List Decl). IsOneHistory ds (sittings_of left) report) built.its_lines is.history
+      subst (λ (ds : List Decl). IsOneHistory ds (commits_of left) report) built.its_lines is.history
 
   -- .. and is that of a run
   pub concluded : (report : Report) → IsBuilt decls seats table made → IsFinished table left report
       → IsRun decls seats report
   concluded report built is = record {
-    left = sittings_of left;
+    left = commits_of left;
     its_report = reports table decls seats made left report built is.its_report;
     gathered = is.gathered;
     summed = is.summed;
@@ -59,53 +60,55 @@ module _ (table : TableView) (decls : List Decl) (seats : ℕ) (made : List Seat
   }
 
 -- if each of these seats is at its number, a history of what they committed is one of what was noted of each
-in_books : (decls : List Decl) (seats : ℕ) (left : List Sitting) (books : List PlansView) (report : Report)
-    → IsOneHistory decls left report → length report.receipts ≡ seats → length left ≡ seats → length books ≡ seats
-    → ((k : ℕ) (d : Sitting) → k < seats → (slice_index_or left k d).number ≡ k)
-    → ((k : ℕ) (d : Sitting) (b : PlansView) → k < seats
-    → (slice_index_or books k b).kept ≡ (slice_index_or left k d).plans)
-    → (order : List Event) × IsOneOrder decls (map (λ (book : PlansView). book.kept) books) report order
-in_books decls seats left books report history many here all each noted =
+in_ledgers : (decls : List Decl) (seats : ℕ) (left : List SeatCommits) (ledgers : List PlansView) (report : Report)
+    → IsOneHistory decls left report → length report.receipts ≡ seats → length left ≡ seats → length ledgers ≡ seats
+    → ((k : ℕ) (d : SeatCommits) → k < seats → (slice_index_or left k d).number ≡ k)
+    → ((k : ℕ) (d : SeatCommits) (b : PlansView) → k < seats
+    → (slice_index_or ledgers k b).kept ≡ (slice_index_or left k d).plans)
+    → (order : List Event) × IsOneOrder decls (map (λ (ledger : PlansView). ledger.kept) ledgers) report order
+in_ledgers decls seats left ledgers report history many here all each noted =
     subst (λ (ps : List (List CheckedView)). (order : List Event) × IsOneOrder decls ps report order) (sym same)
     (history.order, history.one)
   where
-    long : length (map (λ (book : PlansView). book.kept) books) ≡ length history.plans
-    long = length-map books (λ (book : PlansView). book.kept) ∙ all ∙ sym many ∙ sym history.many
+    long : length (map (λ (ledger : PlansView). ledger.kept) ledgers) ≡ length history.plans
+    long = length-map ledgers (λ (ledger : PlansView). ledger.kept) ∙ all ∙ sym many ∙ sym history.many
 
-    at : (k : ℕ) → k < length (map (λ (book : PlansView). book.kept) books)
-        → slice_index_or (map (λ (book : PlansView). book.kept) books) k [] ≡ slice_index_or history.plans k []
+    at : (k : ℕ) → k < length (map (λ (ledger : PlansView). ledger.kept) ledgers)
+        → slice_index_or (map (λ (ledger : PlansView). ledger.kept) ledgers) k [] ≡ slice_index_or history.plans k []
     at k below =
-        let in_all : k < length books = subst (λ n. k < n) (length-map books (λ (book : PlansView). book.kept)) below in
+        let in_all : k < length ledgers = subst (λ n. k < n) (length-map ledgers (λ (ledger : PlansView). ledger.kept))
+        below in
         let within : k < seats = subst (λ n. k < n) all in_all in
         let in_plans : k < length history.plans = subst (λ n. k < n) long below in
         let by = history.ran k (slice_index_or history.plans k []) (slice_get-get_or history.plans k [] in_plans) in
         let at_seats : by.at < seats = subst (λ n. by.at < n) here (slice_get_within left by.at by.seat by.here) in
         let found : slice_index_or left by.at by.seat ≡ by.seat =
         get_or_from_slice_get left by.at by.seat by.seat by.here in
-        let number : by.at ≡ k = sym (each by.at by.seat at_seats) ∙ ap (λ (s : Sitting). s.number) found ∙ by.its in
+        let number : by.at ≡ k = sym (each by.at by.seat at_seats) ∙ ap (λ (s : SeatCommits). s.number) found
+        ∙ by.its in
         let is : slice_index_or left k by.seat ≡ by.seat =
         subst (λ n. slice_index_or left n by.seat ≡ by.seat) number found in
-        let d : PlansView = some_of books k in_all in
-        get_or-map (λ (book : PlansView). book.kept) books k d [] in_all
-        ∙ noted k by.seat d within ∙ ap (λ (s : Sitting). s.plans) is ∙ by.theirs
+        let d : PlansView = some_of ledgers k in_all in
+        get_or-map (λ (ledger : PlansView). ledger.kept) ledgers k d [] in_all
+        ∙ noted k by.seat d within ∙ ap (λ (s : SeatCommits). s.plans) is ∙ by.theirs
 
-    same : map (λ (book : PlansView). book.kept) books ≡ history.plans
-    same = ext_get_or [] (map (λ (book : PlansView). book.kept) books) history.plans long at
+    same : map (λ (ledger : PlansView). ledger.kept) ledgers ≡ history.plans
+    same = ext_get_or [] (map (λ (ledger : PlansView). ledger.kept) ledgers) history.plans long at
 
 -- .. also if the seats have left a table
-pub serial : (decls : List Decl) (seats : ℕ) (left : List LeftSeatView) (books : List PlansView) (report : Report)
-    → IsOneHistory decls (sittings_of left) report → length report.receipts ≡ seats → length left ≡ seats
-    → length books ≡ seats
-    → ((k : ℕ) (l : LeftSeatView) → k < seats → (slice_index_or left k l).sitting.number ≡ k)
-    → ((k : ℕ) (l : LeftSeatView) (b : PlansView) → k < seats
-    → (slice_index_or books k b).kept ≡ (slice_index_or left k l).sitting.plans)
-    → (order : List Event) × IsOneOrder decls (map (λ (book : PlansView). book.kept) books) report order
-serial decls seats left books report history many here all each noted =
-    in_books decls seats (sittings_of left) books report history many
-    (length-map left (λ (seat : LeftSeatView). seat.sitting) ∙ here) all
+pub serial : (decls : List Decl) (seats : ℕ) (left : List DepartedSeatView) (ledgers : List PlansView) (report : Report)
+    → IsOneHistory decls (commits_of left) report → length report.receipts ≡ seats → length left ≡ seats
+    → length ledgers ≡ seats
+    → ((k : ℕ) (l : DepartedSeatView) → k < seats → (slice_index_or left k l).commits.number ≡ k)
+    → ((k : ℕ) (l : DepartedSeatView) (b : PlansView) → k < seats
+    → (slice_index_or ledgers k b).kept ≡ (slice_index_or left k l).commits.plans)
+    → (order : List Event) × IsOneOrder decls (map (λ (ledger : PlansView). ledger.kept) ledgers) report order
+serial decls seats left ledgers report history many here all each noted =
+    in_ledgers decls seats (commits_of left) ledgers report history many
+    (length-map left (λ (seat : DepartedSeatView). seat.commits) ∙ here) all
     (λ k d below. let within : k < length left = subst (λ n. k < n) (sym here) below in
-    let l : LeftSeatView = some_of left k within in
-    ap (λ (s : Sitting). s.number) (sitting_at left k l d within) ∙ each k l below)
+    let l : DepartedSeatView = some_of left k within in
+    ap (λ (s : SeatCommits). s.number) (commits_at left k l d within) ∙ each k l below)
     (λ k d b below. let within : k < length left = subst (λ n. k < n) (sym here) below in
-    let l : LeftSeatView = some_of left k within in
-    noted k l b below ∙ ap (λ (s : Sitting). s.plans) (sym (sitting_at left k l d within)))
+    let l : DepartedSeatView = some_of left k within in
+    noted k l b below ∙ ap (λ (s : SeatCommits). s.plans) (sym (commits_at left k l d within)))

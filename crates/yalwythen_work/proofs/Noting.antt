@@ -5,7 +5,7 @@ use Rattle.std.proofs.Math.ListN.{get_or-append}
 use Rattle.std.proofs.Math.Seq.{get_or-append_seam}
 use Rattle.std.proofs.lemmas.List.{map-append}
 use Rattle.std.proofs.lemmas.List.Elements.{All-append, All-cons}
-use Rattle.txc_table_audit.specs.Turns.{no_plan}
+use Rattle.txc_table_audit.specs.ReceiptKeys.{no_plan}
 use Rattle.txc_txn_check.specs.Limits.{CheckedView}
 use Rattle.yalwythen_work.specs.Plans.{IsThere, plan_of}
 use Rattle.yalwythen_work.specs.declared.plans.PlanIndex.{PlanIndex}

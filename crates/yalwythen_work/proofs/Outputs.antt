@@ -1,12 +1,13 @@
 -- Outputs that are all there.
 use Rattle.std.proofs.Common.{◌≡◌, ◌∙◌, ap, sym, subst, ◌<◌, List, Result, Ok, length, map, slice_index_or}
 use Rattle.std.proofs.lemmas.List.{get_or-map, length-map}
-use Rattle.txc_base_threads.specs.Came.{AllCame}
+use Rattle.txc_base_threads.specs.Postcondition.{AllRelated}
 
 module _ {X E : Type 0} where
   -- what all outputs fit, all values in them fit
   pub came_ok : {J : Type 0} (came : J → Result X E → Type 0) (jobs : List J) (outputs : List (Result X E))
-      (all : List X) → outputs ≡ map Ok all → AllCame came jobs outputs → AllCame (λ job x. came job (Ok x)) jobs all
+      (all : List X) → outputs ≡ map Ok all → AllRelated came jobs outputs
+      → AllRelated (λ job x. came job (Ok x)) jobs all
   came_ok came jobs outputs all same is =
       let long : length outputs ≡ length all = ap length same ∙ length-map all Ok in
       record {

@@ -14,11 +14,11 @@ use Rattle.txc_base.specs.Channel.{Channel, list_of}
 use Rattle.txc_base.specs.Operation.{Waits, says, taking, with_list}
 use Rattle.txc_txn_check.specs.declared.step.Step.{Step}
 use Rattle.txc_txn_check.specs.declared.step.Step.TheVariants.{Do}
-use Rattle.yalwythen_work.specs.Asked.{IsAsked, last_item, replies_in}
+use Rattle.yalwythen_work.specs.Committed.{HasCommittedSteps, last_item, replies_in}
 use Rattle.yalwythen_work.specs.Session.{SessionView}
 use Rattle.yalwythen_work.specs.ReadOutcome.{IsOfItem}
 use Rattle.txc_table.specs.Outcome.{Answers}
-use Rattle.txc_table_seat.specs.Seated.{Sitting, next_tag}
+use Rattle.txc_table_seat.specs.Seated.{SeatCommits, next_tag}
 use Rattle.txc_txn.proofs.Running.{step_in-Do}
 use Rattle.txc_txn.specs.declared.ran.Ran.TheVariants.{Kept as RanKept}
 use Rattle.txc_txn.specs.declared.receipt.Receipt.{Receipt}
@@ -69,18 +69,20 @@ at_seam xs x = slice_get-get_or (xs ++ x ∷ []) (length xs) x (omega (arith, le
     ∙ ap Some (get_or-append_seam xs x [] x)
 
 -- the replies of a session's read that was kept
-pub replied : (before after : SessionView) (chan number : ℕ) → IsAsked before (Do (Read chan 0) ∷ []) number after
+pub replied : (before after : SessionView) (chan number : ℕ)
+    → HasCommittedSteps before (Do (Read chan 0) ∷ []) number after
     → IsReplied (replies_in (slice_get after.seat.receipts number))
-replied before after chan number asked =
-    let tells = asked.tells in
+replied before after chan number committed =
+    let tells = committed.tells in
     let here : slice_get after.seat.receipts number ≡ Some tells.0 =
-    subst (λ (s : Sitting). slice_get s.receipts number ≡ Some tells.0) (sym tells.2)
+    subst (λ (s : SeatCommits). slice_get s.receipts number ≡ Some tells.0) (sym tells.2)
     (subst (λ n. slice_get (before.seat.receipts ++ tells.0 ∷ []) n ≡ Some tells.0) (sym tells.1)
     (at_seam before.seat.receipts tells.0)) in
     subst (λ (r : Option Receipt). IsReplied (replies_in r)) (sym here)
-    (of_read asked.channels (next_tag before.seat) asked.plan.declared chan tells.0
-    (subst (λ (steps : List Step). Answers (kept_tag asked.channels (next_tag before.seat) asked.plan.declared)
-    (transaction asked.channels (next_tag before.seat) asked.plan.declared steps) (RanKept tells.0)) asked.its tells.3))
+    (of_read committed.channels (next_tag before.seat) committed.plan.declared chan tells.0
+    (subst (λ (steps : List Step). Answers (kept_tag committed.channels (next_tag before.seat) committed.plan.declared)
+    (transaction committed.channels (next_tag before.seat) committed.plan.declared steps) (RanKept tells.0))
+    committed.its tells.3))
 
 -- .. where an item was read last
 pub got : (replies : List Reply) (item : Item) → Some item ≡ last_item replies → IsReplied replies → IsOfItem replies

@@ -1,7 +1,7 @@
 -- What the type of a session keeps.
 use Rattle.std.proofs.Common.{◌≡◌, ◌∙◌, sym, ap, [], ◌∷◌, ◌++◌}
 use Rattle.txc_txn_check.specs.Limits.{CheckedView}
-use Rattle.txc_table_seat.specs.Seated.{Sitting, with_receipt}
+use Rattle.txc_table_seat.specs.Seated.{SeatCommits, with_receipt}
 use Rattle.txc_table.specs.Seat.{SeatView}
 use Rattle.txc_table.specs.Table.{TableView}
 use Rattle.txc_txn.specs.declared.receipt.Receipt.{Receipt}
@@ -10,37 +10,38 @@ use Rattle.yalwythen_work.specs.Plans.{PlansView, noted}
 use Rattle.yalwythen_work.specs.SeatWithPlans.{SeatWithPlansView}
 
 -- a transaction that the seat committed was noted
-pub keeps_noted : (first : SeatWithPlansView) (table : TableView) (seat after : SeatView) (book book' : PlansView)
+pub keeps_noted : (first : SeatWithPlansView) (table : TableView) (seat after : SeatView) (ledger ledger' : PlansView)
     (plan : CheckedView)
-    (receipt : Receipt) → IsSession first table seat book → after.sitting ≡ with_receipt seat.sitting plan receipt
-    → after.lines ≡ seat.lines → book'.kept ≡ noted book.notes book.kept plan → book'.prepared ≡ book.prepared
-    → book'.notes ≡ book.notes → IsSession first table after book'
-keeps_noted first table seat after book book' plan receipt was committed lines kept prepared same = record {
+    (receipt : Receipt) → IsSession first table seat ledger → after.commits ≡ with_receipt seat.commits plan receipt
+    → after.lines ≡ seat.lines → ledger'.kept ≡ noted ledger.audited ledger.kept plan → ledger'.prepared
+    ≡ ledger.prepared
+    → ledger'.audited ≡ ledger.audited → IsSession first table after ledger'
+keeps_noted first table seat after ledger ledger' plan receipt was committed lines kept prepared same = record {
   of = lines ∙ was.of;
   fit = rw prepared was.fit;
   back = record {
-    number = ap (λ (s : Sitting). s.number) committed ∙ was.back.number;
+    number = ap (λ (s : SeatCommits). s.number) committed ∙ was.back.number;
     lines = lines ∙ was.back.lines;
-    notes = same ∙ was.back.notes;
+    audited = same ∙ was.back.audited;
     noted = λ is.
-        kept ∙ ap (λ b. noted b book.kept plan) (sym same ∙ is)
+        kept ∙ ap (λ b. noted b ledger.kept plan) (sym same ∙ is)
         ∙ ap (λ ps. ps ++ plan ∷ []) (was.back.noted (sym same ∙ is))
-        ∙ ap (λ (s : Sitting). s.plans) (sym committed);
+        ∙ ap (λ (s : SeatCommits). s.plans) (sym committed);
   };
 }
 
 -- the seat committed nothing, and nothing was noted
-pub keeps_same : (first : SeatWithPlansView) (table : TableView) (seat after : SeatView) (book book' : PlansView)
-    → IsSession first table seat book → after ≡ seat → book'.kept ≡ book.kept → book'.prepared ≡ book.prepared
-    → book'.notes ≡ book.notes → IsSession first table after book'
-keeps_same first table seat after book book' was same kept prepared notes = record {
+pub keeps_same : (first : SeatWithPlansView) (table : TableView) (seat after : SeatView) (ledger ledger' : PlansView)
+    → IsSession first table seat ledger → after ≡ seat → ledger'.kept ≡ ledger.kept → ledger'.prepared ≡ ledger.prepared
+    → ledger'.audited ≡ ledger.audited → IsSession first table after ledger'
+keeps_same first table seat after ledger ledger' was same kept prepared audited = record {
   of = ap (λ (s : SeatView). s.lines) same ∙ was.of;
   fit = rw prepared was.fit;
   back = record {
-    number = ap (λ (s : SeatView). s.sitting.number) same ∙ was.back.number;
+    number = ap (λ (s : SeatView). s.commits.number) same ∙ was.back.number;
     lines = ap (λ (s : SeatView). s.lines) same ∙ was.back.lines;
-    notes = notes ∙ was.back.notes;
+    audited = audited ∙ was.back.audited;
     noted = λ is.
-        kept ∙ was.back.noted (sym notes ∙ is) ∙ ap (λ (s : SeatView). s.sitting.plans) (sym same);
+        kept ∙ was.back.noted (sym audited ∙ is) ∙ ap (λ (s : SeatView). s.commits.plans) (sym same);
   };
 }

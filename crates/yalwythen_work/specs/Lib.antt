@@ -2,7 +2,7 @@ pub mod Plans
 pub mod SeatWithPlans
 pub mod OneShot
 pub mod Session
-pub mod Asked
+pub mod Committed
 pub mod Drained
 pub mod Unready
 pub mod Ends

@@ -14,5 +14,5 @@ module _ {X V : Type 0} where
         → (value : X) × (get_elem? s.homes 0 ≡ some (some (Some value))) × fits value
 
   -- a seat of the cell's table has its slot, which is empty
-  abbrev pub HasVacancy : Me (Option X) V → Type 0
-  HasVacancy me = me.1 ≡ (0, None) ∷ []
+  abbrev pub HasEmptySlot : Me (Option X) V → Type 0
+  HasEmptySlot me = me.1 ≡ (0, None) ∷ []

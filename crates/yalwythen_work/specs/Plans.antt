@@ -1,6 +1,6 @@
 -- The transactions of a session, in contracts.
 use Rattle.std.specs.Prelude.{◌≡◌, ℕ, Bool, true, false, ◌<◌, List, [], ◌∷◌, ◌++◌, slice_index_or}
-use Rattle.txc_table_audit.specs.Turns.{no_plan}
+use Rattle.txc_table_audit.specs.ReceiptKeys.{no_plan}
 use Rattle.txc_txn_check.specs.Limits.{CheckedView}
 use Rattle.yalwythen_work.specs.declared.plans.PlanIndex.{PlanIndex}
 use Rattle.yalwythen_work.specs.declared.plans.PlanIndex.TheVariants.{Once, Prepared}
@@ -10,7 +10,7 @@ use Rattle.yalwythen_work.specs.declared.plans.PlanIndex.TheVariants.{Once, Prep
 pub record PlansView : Type 0 where
   pub prepared : List CheckedView
   pub kept : List CheckedView
-  pub notes : Bool
+  pub audited : Bool
   pub room : ℕ
   pub room_once : ℕ
 
@@ -18,7 +18,7 @@ pub record PlansView : Type 0 where
 pub record KeepsPlans (before after : PlansView) : Type 0 where
   pub prepared : after.prepared ≡ before.prepared
   pub kept : after.kept ≡ before.kept
-  pub notes : after.notes ≡ before.notes
+  pub audited : after.audited ≡ before.audited
 
 -- the committed transaction, given the list of prepared transactions and the list of those that are run once
 abbrev pub plan_of : List CheckedView → List CheckedView → PlanIndex → CheckedView

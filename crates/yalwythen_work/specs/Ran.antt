@@ -1,6 +1,6 @@
 -- The result of a run of workers.
 use Rattle.std.specs.Prelude.{◌≡◌, ℕ, ◌<◌, List, length, map, vec_len}
-use Rattle.txc_base.specs.declared.limits.TheConstants.{MOST_SEATS}
+use Rattle.txc_base.specs.declared.limits.TheConstants.{MAX_SEATS}
 use Rattle.txc_chan.specs.declared.summary.Summary.{Summary}
 use Rattle.txc_chan.specs.declared.decl.Decl.{Decl}
 use Rattle.txc_table_report.specs.Finished.{IsReport}
@@ -9,13 +9,13 @@ use Rattle.txc_table_report.specs.Refusal.{reason, refusal}
 use Rattle.txc_table_report.specs.Sorted.{AreTakenOnce, IsSummed}
 use Rattle.txc_txn_history.specs.Events.{Event}
 use Rattle.txc_txn_history.specs.OneOrder.{IsOneOrder}
-use Rattle.txc_table_seat.specs.Seated.{Sitting}
+use Rattle.txc_table_seat.specs.Seated.{SeatCommits}
 use Rattle.txc_txn.specs.declared.report.Report.{Report}
 use Rattle.txc_table_lines.specs.Accounted.{summary_in}
 use Rattle.txc_table.specs.Finished.{IsOneHistory}
-use Rattle.yalwythen_work.specs.declared.closed.Closed.{Closed}
+use Rattle.yalwythen_work.specs.declared.service_outcome.ServiceOutcome.{ServiceOutcome}
 use Rattle.yalwythen_work.specs.declared.pool.Results.{Results}
-use Rattle.yalwythen_work.specs.declared.done.Done.{Done}
+use Rattle.yalwythen_work.specs.declared.run_outcome.RunOutcome.{RunOutcome}
 use Rattle.yalwythen_work.specs.declared.run_fault.RunFault.{RunFault}
 use Rattle.yalwythen_work.specs.declared.run_fault.RunFault.TheVariants.{TooManyWorkers, Table, NoThread, Torn}
 use Rattle.yalwythen_work.specs.declared.run_fault.RunFault.TheVariants.{NoMemory}
@@ -25,7 +25,7 @@ use Rattle.yalwythen_work.specs.Plans.{PlansView}
 -- every channel is in one receipt, the counts of each channel add up, every item of a queue was taken by one seat or
 -- remains, and it is one serial history of the transactions that the seats committed on these channels
 pub record IsRun (decls : List Decl) (workers : ℕ) (report : Report) : Type 0 where
-  pub left : List Sitting
+  pub left : List SeatCommits
   pub its_report : IsReport decls (length decls) workers left report
   pub gathered : IsGathered (logs_of report.accounts) report.receipts
   pub summed : IsSummed (logs_of report.accounts) report.receipts
@@ -34,9 +34,9 @@ pub record IsRun (decls : List Decl) (workers : ℕ) (report : Report) : Type 0 
 
 -- the run is one serial history of the transactions that its workers noted: in the order of the stamps, one thread that
 -- runs them on these channels gets each receipt whole and leaves the channels as the report shows them
-abbrev pub IsSerial : {W : Type 0} → List Decl → Done W → Type 0
+abbrev pub IsSerial : {W : Type 0} → List Decl → RunOutcome W → Type 0
 IsSerial decls done = (order : List Event)
-    × IsOneOrder decls (map (λ (book : PlansView). book.kept) done.plans.items) done.report order
+    × IsOneOrder decls (map (λ (ledger : PlansView). ledger.kept) done.plans.items) done.report order
 
 -- the summaries of a service of this number of servers on these channels, whatever they did: a report of such a run
 -- exists, and these are its summaries
@@ -48,7 +48,7 @@ pub record IsService (decls : List Decl) (servers : ℕ) (summaries : List Summa
 -- why a run has no report: a failed start of a thread and a failed allocation need no reason, and a torn receipt never
 -- occurs
 abbrev pub IsRefused : List Decl → ℕ → RunFault → Type 0
-IsRefused decls workers TooManyWorkers = MOST_SEATS < workers
+IsRefused decls workers TooManyWorkers = MAX_SEATS < workers
 IsRefused decls workers (Table fault) = refusal decls workers ≡ reason fault
 IsRefused decls workers NoThread = Unit {0}
 IsRefused decls workers (Torn seat chan place report) = ⊥
@@ -60,9 +60,9 @@ IsOfAll many results = (vec_len results.left ≡ many) × (vec_len results.worke
     × (vec_len results.plans ≡ many)
 
 -- a run has this number of workers, of results of workers, and of lists of noted transactions
-abbrev pub IsOfEach : {W : Type 0} → ℕ → Done W → Type 0
+abbrev pub IsOfEach : {W : Type 0} → ℕ → RunOutcome W → Type 0
 IsOfEach many done = (vec_len done.workers ≡ many) × (vec_len done.ends ≡ many) × (vec_len done.plans ≡ many)
 
 -- a service has this number of servers and of results of servers
-abbrev pub IsOfEachServer : {W : Type 0} → ℕ → Closed W → Type 0
+abbrev pub IsOfEachServer : {W : Type 0} → ℕ → ServiceOutcome W → Type 0
 IsOfEachServer many closed = (vec_len closed.servers ≡ many) × (vec_len closed.ends ≡ many)

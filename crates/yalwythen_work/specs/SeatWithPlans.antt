@@ -11,7 +11,7 @@ pub record SeatWithPlansView : Type 0 where
 -- the second seat is what the first one can become at a session: its seat has the same number and is of the same table,
 -- commits are noted or not as before, and if they are noted, the noted ones are those that the seat committed
 pub record IsAfterSession (before after : SeatWithPlansView) : Type 0 where
-  pub number : after.seat.sitting.number ≡ before.seat.sitting.number
+  pub number : after.seat.commits.number ≡ before.seat.commits.number
   pub lines : after.seat.lines ≡ before.seat.lines
-  pub notes : after.plans.notes ≡ before.plans.notes
-  pub noted : IsTrue after.plans.notes → after.plans.kept ≡ after.seat.sitting.plans
+  pub audited : after.plans.audited ≡ before.plans.audited
+  pub noted : IsTrue after.plans.audited → after.plans.kept ≡ after.seat.commits.plans

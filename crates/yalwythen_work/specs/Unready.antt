@@ -8,8 +8,8 @@ use Rattle.yalwythen_work.specs.declared.transact_error.TransactError.{TransactE
 use Rattle.yalwythen_work.specs.declared.transact_error.TransactError.TheVariants.{Unfit, Unprepared, Stalled, Stopped}
 
 -- these steps are not a transaction of these kinds, or allocation failed
-abbrev pub IsUnready : List Kind → List Step → TransactError → Type 0
-IsUnready kinds steps Unprepared = ⊥
-IsUnready kinds steps (Unfit fault) = walk (slice_get kinds) steps ≡ Faulty fault
-IsUnready kinds steps (Stalled cause) = ⊥
-IsUnready kinds steps (Stopped stop) = stop ≡ NoMemory
+abbrev pub IsCheckError : List Kind → List Step → TransactError → Type 0
+IsCheckError kinds steps Unprepared = ⊥
+IsCheckError kinds steps (Unfit fault) = walk (slice_get kinds) steps ≡ Faulty fault
+IsCheckError kinds steps (Stalled cause) = ⊥
+IsCheckError kinds steps (Stopped stop) = stop ≡ NoMemory

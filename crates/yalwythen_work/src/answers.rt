@@ -1,6 +1,6 @@
 // Functions that read a transaction's replies.
 ghost use Rattle.std.specs.Prelude.{◌≡◌};
-ghost use Rattle.yalwythen_work.specs.Asked.{found_closed, last_item};
+ghost use Rattle.yalwythen_work.specs.Committed.{found_closed, last_item};
 
 use txc_base::{Item, Reply};
 

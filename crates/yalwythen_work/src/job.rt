@@ -1,7 +1,7 @@
 // A worker before and after its thread runs it.
 ghost use Rattle.std.specs.Prelude.{◌≡◌, IfOk, Some};
 ghost use Rattle.std.specs.Option.{ForSome};
-ghost use Rattle.txc_table_seat.specs.Seated.{untouched};
+ghost use Rattle.txc_table_seat.specs.Seated.{no_commits};
 ghost use Rattle.yalwythen_work.specs.Left.{IsLeftOf};
 
 use crate::one_shot::OneShot;
@@ -16,12 +16,12 @@ use std::alloc::AllocError;
 use std::marker::PhantomData;
 use std::sync::Wait;
 use txc_base_threads::Task;
-use txc_table::{LeftSeat, Seat, Table};
+use txc_table::{DepartedSeat, Seat, Table};
 
 /// A worker and its seat, before its thread runs it. If the job is dropped unperformed, the seat leaves the table.
 ///
 /// `R` is the handle by which the worker blocks, `K` is what the table and its seats record, `W` is the worker, and `Q`
-/// is its role: `InRun` or `InService`.
+/// is its role: `WorkerRole` or `ServerRole`.
 pub(crate) struct Job<'a, R: Wait, K: Recording, W, Q> {
     pub(crate) role: PhantomData<Q>,
     pub(crate) rt: &'a R,
@@ -61,20 +61,20 @@ pub(crate) struct JobResult<L, W> {
 }
 
 impl<R: Wait, K: Recording, W: Drop, Q: Role<R, K, W>> Task<
-    Result<JobResult<LeftSeat<K, K::Receipts>, W>, AllocError>,
+    Result<JobResult<DepartedSeat<K, K::Receipts>, W>, AllocError>,
 > for Job<'_, R, K, W, Q> {
     ghost use Rattle.std.specs.Prelude.{◌≡◌, IfOk, Some};
-    ghost use Rattle.txc_table_seat.specs.Seated.{untouched};
+    ghost use Rattle.txc_table_seat.specs.Seated.{no_commits};
     ghost use Rattle.yalwythen_work.specs.Left.{IsLeftOf};
 
     ghost Can = { λ job. (seat : _) × (worker : _) × (job.seat ≡ Some seat) × (job.worker ≡ Some worker)
-        × (seat.sitting ≡ untouched seat.sitting.number) };
+        × (seat.commits ≡ no_commits seat.commits.number) };
 
     ghost Does = { λ job output. (seat : _) → (worker : _) → job.seat ≡ Some seat → job.worker ≡ Some worker
-        → IfOk output (λ served. IsLeftOf job.setup.notes seat served.left served.plans
-        × Q.Came worker served.worker) };
+        → IfOk output (λ served. IsLeftOf job.setup.audited seat served.left served.plans
+        × Q.Postcondition worker served.worker) };
 
-    fn perform(self) -> Result<JobResult<LeftSeat<K, K::Receipts>, W>, AllocError> {
+    fn perform(self) -> Result<JobResult<DepartedSeat<K, K::Receipts>, W>, AllocError> {
         run_job(self)
     }
 }
@@ -87,14 +87,14 @@ fn serve<R: Wait, K: Recording, W: Drop, Q: Role<R, K, W>>(
     table: &Table<K>,
     seat: Seat<K, K::Receipts>,
     worker: W,
-) -> Result<JobResult<LeftSeat<K, K::Receipts>, W>, AllocError>
+) -> Result<JobResult<DepartedSeat<K, K::Receipts>, W>, AllocError>
     requires of { seat.lines ≡ table.now.lines }
-    requires fresh { seat.sitting ≡ untouched seat.sitting.number }
-    ensures left { IfOk result (λ served. IsLeftOf setup.notes seat served.left served.plans) }
-    ensures came { IfOk result (λ served. Q.Came worker served.worker) }
+    requires fresh { seat.commits ≡ no_commits seat.commits.number }
+    ensures left { IfOk result (λ served. IsLeftOf setup.audited seat served.left served.plans) }
+    ensures came { IfOk result (λ served. Q.Postcondition worker served.worker) }
 {
     let mut worker = worker;
-    let plans = Plans::new(setup.alloc, setup.notes);
+    let plans = Plans::new(setup.alloc, setup.audited);
     let both = SeatWithPlans { seat, plans };
     let cell = match OneShot::new(setup.alloc, &both) {
         Ok(cell) => cell,
@@ -119,12 +119,12 @@ fn serve<R: Wait, K: Recording, W: Drop, Q: Role<R, K, W>>(
 /// Runs the worker of a job, which must have its seat and its worker. The worker's seat then leaves.
 fn run_job<R: Wait, K: Recording, W: Drop, Q: Role<R, K, W>>(
     job: Job<'_, R, K, W, Q>,
-) -> Result<JobResult<LeftSeat<K, K::Receipts>, W>, AllocError>
+) -> Result<JobResult<DepartedSeat<K, K::Receipts>, W>, AllocError>
     requires { (seat : _) × (worker : _) × (job.seat ≡ Some seat) × (job.worker ≡ Some worker)
-        × (seat.sitting ≡ untouched seat.sitting.number) }
+        × (seat.commits ≡ no_commits seat.commits.number) }
     ensures { (seat : _) → (worker : _) → job.entry.seat ≡ Some seat → job.entry.worker ≡ Some worker
-        → IfOk result (λ served. IsLeftOf job.entry.setup.notes seat served.left served.plans
-        × Q.Came worker served.worker) }
+        → IfOk result (λ served. IsLeftOf job.entry.setup.audited seat served.left served.plans
+        × Q.Postcondition worker served.worker) }
 {
     let mut job = job;
     let Some(worker) = job.worker.take() else {

@@ -1,6 +1,6 @@
 // A cell for the seat of a session.
 ghost use Rattle.std.specs.Prelude.{◌≡◌, IfOk, IfSome};
-ghost use Rattle.yalwythen_work.specs.OneShot.{HasVacancy};
+ghost use Rattle.yalwythen_work.specs.OneShot.{HasEmptySlot};
 ghost use Rattle.yalwythen_work.specs.SeatWithPlans.{IsAfterSession};
 ghost use Rattle.yalwythen_work.specs.declared.states.TheConstants.{FULL};
 
@@ -13,6 +13,10 @@ use std::marker::{Model, PhantomData};
 use std::mem;
 use std::snapshot::Snapshot;
 use std::sync::Wait;
+
+// `Seat` and `Table` of `atomic_table` are no seats and tables of channels: a `Table` is a value that threads share,
+// and
+// a thread changes it by a `Seat`.
 
 /// The rule of a cell's table, for proofs: a full cell has what its first seat can become at a session.
 pub(crate) struct Filled<K> {
@@ -34,10 +38,10 @@ struct Claim;
 
 impl<X> Play<Option<X>, ()> for Claim {
     ghost use Rattle.std.specs.Prelude.{◌≡◌};
-    ghost use Rattle.yalwythen_work.specs.OneShot.{HasVacancy};
+    ghost use Rattle.yalwythen_work.specs.OneShot.{HasEmptySlot};
     ghost use Rattle.yalwythen_work.specs.declared.states.TheConstants.{EMPTY};
 
-    ghost then = { λ _ _ found after. found ≡ EMPTY → HasVacancy after };
+    ghost then = { λ _ _ found after. found ≡ EMPTY → HasEmptySlot after };
 }
 
 /// A step that fills a cell.
@@ -57,26 +61,26 @@ pub(crate) struct OneShot<K: Recording> {
 
 /// The right to fill a cell, which is empty until then. In a contract it is the seat, with its plans, that the cell
 /// was made for.
-pub(crate) struct Vacancy<'a, K: Recording> {
+pub(crate) struct FillPermit<'a, K: Recording> {
     cell: &'a OneShot<K>,
     seat: Seat<Option<SeatWithPlans<K>>, ()>,
 }
 
-impl<'a, K: Recording> Model for Vacancy<'a, K> {
+impl<'a, K: Recording> Model for FillPermit<'a, K> {
     ghost use Rattle.std.specs.Prelude.{◌≡◌};
     ghost use Rattle.std.specs.Coded.{codes};
     ghost use Rattle.txc_txn_check.specs.contracts.step.Step as step;
-    ghost use Rattle.yalwythen_work.specs.OneShot.{HasVacancy};
+    ghost use Rattle.yalwythen_work.specs.OneShot.{HasEmptySlot};
     ghost use Rattle.yalwythen_work.specs.SeatWithPlans.{SeatWithPlansView};
 
     ghost Value = { SeatWithPlansView };
 
     ghost coded = { Prim.hlevel (codes, step.the_row.coded) };
 
-    ghost view = { λ vacancy. vacancy.cell.now.table.shared.key.value };
+    ghost view = { λ permit. permit.cell.now.table.shared.key.value };
 
-    ghost invariant = { λ vacancy. (vacancy.seat.table_id ≡ vacancy.cell.now.table.shared.table_id)
-        × HasVacancy vacancy.seat.me };
+    ghost invariant = { λ permit. (permit.seat.table_id ≡ permit.cell.now.table.shared.table_id)
+        × HasEmptySlot permit.seat.me };
 }
 
 impl<K: Recording> OneShot<K> {
@@ -90,23 +94,23 @@ impl<K: Recording> OneShot<K> {
     }
 
     /// Claims the cell if it is empty.
-    fn try_claim(&self) -> Option<Vacancy<'_, K>>
-        ensures { IfSome result (λ vacancy. vacancy ≡ self.now.table.shared.key.value) }
+    fn try_claim(&self) -> Option<FillPermit<'_, K>>
+        ensures { IfSome result (λ permit. permit ≡ self.now.table.shared.key.value) }
     {
         let (found, seat) = self.table.shared.swap_new_seat::<Claim>(0, CLAIMED);
         if found == EMPTY {
-            return Some(Vacancy { cell: self, seat });
+            return Some(FillPermit { cell: self, seat });
         }
         None
     }
 
     /// Claims the cell. Blocks forever if the cell was claimed before.
-    pub(crate) fn claim<R: Wait>(&self, rt: &R) -> Vacancy<'_, K>
+    pub(crate) fn claim<R: Wait>(&self, rt: &R) -> FillPermit<'_, K>
         ensures { result ≡ self.now.table.shared.key.value }
     {
         for _ in rt.forever() {
-            if let Some(vacancy) = self.try_claim() {
-                return vacancy;
+            if let Some(permit) = self.try_claim() {
+                return permit;
             }
         }
         unreachable!()
@@ -138,12 +142,12 @@ fn wait_until_full<R: Wait>(rt: &R, state: u64)
     unreachable!()
 }
 
-impl<K: Recording> Vacancy<'_, K> {
+impl<K: Recording> FillPermit<'_, K> {
     /// Fills the cell with what its first seat became.
     pub(crate) fn fill(self, both: SeatWithPlans<K>)
         requires { IsAfterSession self both }
     {
-        let Vacancy { cell, mut seat } = self;
+        let FillPermit { cell, mut seat } = self;
         let shared = &cell.table.shared;
         let slot = seat.slot_mut(shared, 0);
         let before = mem::replace(slot, Some(both));

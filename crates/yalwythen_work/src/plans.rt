@@ -1,7 +1,7 @@
 // The transactions that a worker committed.
 ghost use Rattle.std.specs.Prelude.{◌≡◌, ◌≤◌, ◌<◌, [], ◌∷◌, ◌++◌, length, slice_get, slice_index_or, Some, IsTrue, ◌↔◌};
 ghost use Rattle.std.specs.Prelude.{IfOk, IfSome, IfNone, OnOk, OnErr};
-ghost use Rattle.txc_table_audit.specs.Turns.{no_plan};
+ghost use Rattle.txc_table_audit.specs.ReceiptKeys.{no_plan};
 ghost use Rattle.yalwythen_work.specs.Plans.{noted};
 
 use std::alloc::{AllocError, Global};
@@ -26,7 +26,7 @@ pub struct Plans {
     once: Vec<Checked>,
     kept: Vec<PlanIndex>,
     // Whether committed transactions are noted.
-    notes: bool,
+    audited: bool,
 }
 
 impl Model for Plans {
@@ -42,7 +42,7 @@ impl Model for Plans {
     ghost view = { λ plans. record {
       prepared = plans.prepared.items;
       kept = map (plan_of plans.prepared.items plans.once.items) plans.kept.items;
-      notes = plans.notes;
+      audited = plans.audited;
       room = vec_capacity plans.kept - vec_len plans.kept;
       room_once = vec_capacity plans.once - vec_len plans.once;
     } };
@@ -52,17 +52,17 @@ impl Model for Plans {
 }
 
 impl Plans {
-    /// Makes an empty list. If `notes` is false, committed transactions are not noted.
-    pub(crate) fn new(alloc: Global, notes: bool) -> Plans
+    /// Makes an empty list. If `audited` is false, committed transactions are not noted.
+    pub(crate) fn new(alloc: Global, audited: bool) -> Plans
         ensures prepared { result.prepared ≡ [] }
         ensures kept { result.kept ≡ [] }
-        ensures notes { result.notes ≡ notes }
+        ensures audited { result.audited ≡ audited }
     {
         Plans {
             prepared: Vec::new(alloc),
             once: Vec::new(alloc),
             kept: Vec::new(alloc),
-            notes,
+            audited,
         }
     }
 
@@ -72,7 +72,7 @@ impl Plans {
         ensures prepared { OnOk result (self.new.prepared ≡ self.old.prepared ++ plan ∷ []) }
         ensures same { OnErr result (self.new.prepared ≡ self.old.prepared) }
         ensures kept { self.new.kept ≡ self.old.kept }
-        ensures notes { self.new.notes ≡ self.old.notes }
+        ensures audited { self.new.audited ≡ self.old.audited }
     {
         let number = self.prepared.len();
         self.prepared.reserve(1)?;
@@ -90,12 +90,12 @@ impl Plans {
 
     /// Reserves capacity to note one more commit of a prepared transaction. Allocates only if commits are noted.
     pub(crate) fn reserve_prepared(&mut self) -> Result<(), AllocError>
-        ensures room { OnOk result (IsTrue self.new.notes → 0 < self.new.room) }
+        ensures room { OnOk result (IsTrue self.new.audited → 0 < self.new.room) }
         ensures prepared { self.new.prepared ≡ self.old.prepared }
         ensures kept { self.new.kept ≡ self.old.kept }
-        ensures notes { self.new.notes ≡ self.old.notes }
+        ensures audited { self.new.audited ≡ self.old.audited }
     {
-        if self.notes {
+        if self.audited {
             self.kept.reserve(1)?;
         }
         Ok(())
@@ -104,13 +104,13 @@ impl Plans {
     /// Reserves capacity to note one more commit of a transaction that is run once. Allocates only if commits are
     /// noted.
     pub(crate) fn reserve(&mut self) -> Result<(), AllocError>
-        ensures room { OnOk result (IsTrue self.new.notes → 0 < self.new.room) }
-        ensures once { OnOk result (IsTrue self.new.notes → 0 < self.new.room_once) }
+        ensures room { OnOk result (IsTrue self.new.audited → 0 < self.new.room) }
+        ensures once { OnOk result (IsTrue self.new.audited → 0 < self.new.room_once) }
         ensures prepared { self.new.prepared ≡ self.old.prepared }
         ensures kept { self.new.kept ≡ self.old.kept }
-        ensures notes { self.new.notes ≡ self.old.notes }
+        ensures audited { self.new.audited ≡ self.old.audited }
     {
-        if self.notes {
+        if self.audited {
             self.kept.reserve(1)?;
             self.once.reserve(1)?;
         }
@@ -119,13 +119,13 @@ impl Plans {
 
     /// Notes the commit of a transaction that is run once, if commits are noted. There must be capacity for it.
     pub(crate) fn note(&mut self, plan: Checked)
-        requires room { IsTrue self.old.notes → 0 < self.old.room }
-        requires once { IsTrue self.old.notes → 0 < self.old.room_once }
-        ensures kept { self.new.kept ≡ noted self.old.notes self.old.kept plan }
+        requires room { IsTrue self.old.audited → 0 < self.old.room }
+        requires once { IsTrue self.old.audited → 0 < self.old.room_once }
+        ensures kept { self.new.kept ≡ noted self.old.audited self.old.kept plan }
         ensures prepared { self.new.prepared ≡ self.old.prepared }
-        ensures notes { self.new.notes ≡ self.old.notes }
+        ensures audited { self.new.audited ≡ self.old.audited }
     {
-        if self.notes {
+        if self.audited {
             let number = self.once.len();
             self.once.push_reserved(plan);
             self.kept.push_reserved(PlanIndex::Once(number));
@@ -136,13 +136,13 @@ impl Plans {
     /// it.
     pub(crate) fn note_prepared(&mut self, number: usize)
         requires there { number < length self.old.prepared }
-        requires room { IsTrue self.old.notes → 0 < self.old.room }
+        requires room { IsTrue self.old.audited → 0 < self.old.room }
         ensures kept { self.new.kept
-            ≡ noted self.old.notes self.old.kept (slice_index_or self.old.prepared number no_plan) }
+            ≡ noted self.old.audited self.old.kept (slice_index_or self.old.prepared number no_plan) }
         ensures prepared { self.new.prepared ≡ self.old.prepared }
-        ensures notes { self.new.notes ≡ self.old.notes }
+        ensures audited { self.new.audited ≡ self.old.audited }
     {
-        if self.notes {
+        if self.audited {
             self.kept.push_reserved(PlanIndex::Prepared(number));
         }
     }

@@ -2,8 +2,8 @@
 ghost use Rattle.std.specs.Prelude.{◌≡◌, ◌≤◌, ◌<◌, ℕ, [], IfOk, IsTrue, Ok, Some, map, slice_index_or, vec_len};
 ghost use Rattle.std.specs.Prelude.{vec_capacity};
 ghost use Rattle.yalwythen_work.specs.Ran.{IsOfAll};
-ghost use Rattle.txc_base_threads.specs.Came.{AllCame};
-ghost use Rattle.txc_table_seat.specs.Seated.{untouched};
+ghost use Rattle.txc_base_threads.specs.Postcondition.{AllRelated};
+ghost use Rattle.txc_table_seat.specs.Seated.{no_commits};
 
 use crate::job::{Job, JobResult};
 use crate::plans::Plans;
@@ -16,7 +16,7 @@ use std::marker::PhantomData;
 use std::sync::Wait;
 use std::thread::Threads;
 use txc_base_threads::{StartError, Task, run_all};
-use txc_table::{LeftSeat, Seat, Table};
+use txc_table::{DepartedSeat, Seat, Table};
 
 /// The data that all workers share.
 #[derive(Drop)]
@@ -132,7 +132,7 @@ fn perform_all<
     J: Task<Result<JobResult<L, W>, AllocError>> + Send + Drop + 'a,
 >(rt: &'a R, alloc: Global, jobs: Vec<J>) -> Result<Vec<JobResult<L, W>>, StartError>
     requires can { (k : ℕ) (j : _) → k < vec_len jobs → J.Can (slice_index_or jobs.items k j) }
-    ensures came { IfOk result (λ all. AllCame (λ job served. J.Does job (Ok served)) jobs.items all.items) }
+    ensures came { IfOk result (λ all. AllRelated (λ job served. J.Does job (Ok served)) jobs.items all.items) }
 {
     let outputs = run_all(rt, alloc, jobs)?;
     collect_outputs(alloc, outputs)
@@ -182,23 +182,23 @@ pub(crate) fn work_all<
     pool: Pool<'a, R, K>,
     seats: Vec<Seat<K, K::Receipts>>,
     workers: Vec<W>,
-) -> Result<Results<LeftSeat<K, K::Receipts>, W>, StartError>
+) -> Result<Results<DepartedSeat<K, K::Receipts>, W>, StartError>
 where
     K::Receipts: Send,
     requires workers { vec_len workers ≡ vec_len seats }
     requires of { (k : ℕ) (s : _) → k < vec_len seats
         → (slice_index_or seats.items k s).lines ≡ pool.table.now.lines }
-    requires fresh { (k : ℕ) (s : _) → k < vec_len seats → (slice_index_or seats.items k s).sitting ≡ untouched k }
+    requires fresh { (k : ℕ) (s : _) → k < vec_len seats → (slice_index_or seats.items k s).commits ≡ no_commits k }
     ensures len { IfOk result (λ results. IsOfAll (vec_len workers) results) }
     ensures numbered { IfOk result (λ results. (k : ℕ) (l : _) → k < vec_len workers
-        → (slice_index_or results.left.items k l).sitting.number ≡ k) }
+        → (slice_index_or results.left.items k l).commits.number ≡ k) }
     ensures of { IfOk result (λ results. (k : ℕ) (l : _) → k < vec_len workers
         → (slice_index_or results.left.items k l).lines ≡ pool.entry.table.now.lines) }
-    ensures noted { IfOk result (λ results. IsTrue pool.entry.setup.notes → (k : ℕ) (l : _) (p : _)
+    ensures noted { IfOk result (λ results. IsTrue pool.entry.setup.audited → (k : ℕ) (l : _) (p : _)
         → k < vec_len workers → (slice_index_or results.plans.items k p).kept
-        ≡ (slice_index_or results.left.items k l).sitting.plans) }
+        ≡ (slice_index_or results.left.items k l).commits.plans) }
     ensures came { IfOk result (λ results. (k : ℕ) (b : _) (a : _) → k < vec_len workers
-        → Q.Came (slice_index_or workers.items k b) (slice_index_or results.workers.items k a)) }
+        → Q.Postcondition (slice_index_or workers.items k b) (slice_index_or results.workers.items k a)) }
 {
     let mut jobs: Vec<Job<'a, R, K, W, Q>> = Vec::new(pool.setup.alloc);
     match jobs.reserve(seats.len()) {

@@ -10,19 +10,19 @@ use txc_chan::{FullLog, GhostLog};
 /// How the workers of one role run at their sessions.
 pub(crate) trait Role<R: Wait, K: Recording, W> {
     /// The worker's own claim about its value before it ran and after it has ended.
-    ghost Came: { W → W → Type 0 };
+    ghost Postcondition: { W → W → Type 0 };
 
     /// Runs the worker at this session.
     fn work(worker: &mut W, rt: &R, session: &mut Session<'_, K>) -> Result<(), TransactError>
-        ensures { Came worker.old worker.new };
+        ensures { Postcondition worker.old worker.new };
 }
 
 /// The role of a worker in a run. Its table keeps all logs and receipts.
 #[derive(Drop)]
-pub(crate) struct InRun;
+pub(crate) struct WorkerRole;
 
-impl<R: Wait, W: Worker<R>> Role<R, FullLog, W> for InRun {
-    ghost Came = { W.Came };
+impl<R: Wait, W: Worker<R>> Role<R, FullLog, W> for WorkerRole {
+    ghost Postcondition = { W.Postcondition };
 
     fn work(worker: &mut W, rt: &R, session: &mut Session<'_>) -> Result<(), TransactError> {
         worker.work(rt, session)
@@ -31,10 +31,10 @@ impl<R: Wait, W: Worker<R>> Role<R, FullLog, W> for InRun {
 
 /// The role of a server in a service. Its table keeps no log, and each seat keeps only its last receipt.
 #[derive(Drop)]
-pub(crate) struct InService;
+pub(crate) struct ServerRole;
 
-impl<R: Wait, W: Server<R>> Role<R, GhostLog, W> for InService {
-    ghost Came = { W.Came };
+impl<R: Wait, W: Server<R>> Role<R, GhostLog, W> for ServerRole {
+    ghost Postcondition = { W.Postcondition };
 
     fn work(
         worker: &mut W,

@@ -3,8 +3,8 @@ ghost use Rattle.std.specs.Prelude.{◌≡◌, ◌<◌, ℕ, IfOk, IfErr, IsTrue
 ghost use Rattle.txc_table_report.specs.Refusal.{refusal};
 ghost use Rattle.yalwythen_work.specs.Ran.{IsOfAll, IsRefused};
 ghost use Rattle.txc_table.specs.Built.{IsBuilt};
-ghost use Rattle.txc_table.specs.Refused.{AreBack};
-ghost use Rattle.txc_base_threads.specs.Came.{AllCame};
+ghost use Rattle.txc_table.specs.Refused.{AreAllSeats};
+ghost use Rattle.txc_base_threads.specs.Postcondition.{AllRelated};
 
 use crate::pool::{Pool, Results, work_all};
 use crate::recording::Recording;
@@ -13,10 +13,10 @@ use crate::run_fault::RunFault;
 use crate::setup::Setup;
 use std::sync::Wait;
 use std::thread::Threads;
-use txc_base::MOST_SEATS;
+use txc_base::MAX_SEATS;
 use txc_base_threads::StartError;
 use txc_chan::Decl;
-use txc_table::{LeftSeat, Table};
+use txc_table::{DepartedSeat, Table};
 
 /// A table whose workers have all ended, and their results.
 #[derive(Drop)]
@@ -41,22 +41,22 @@ pub(crate) fn run_workers<
     setup: Setup,
     decls: &[Decl],
     workers: Vec<W>,
-) -> Result<EndedWorkers<Table<K>, LeftSeat<K, K::Receipts>, W>, RunFault>
+) -> Result<EndedWorkers<Table<K>, DepartedSeat<K, K::Receipts>, W>, RunFault>
 where
     K::Receipts: Send,
     ensures built { IfOk result (λ ended. (made : _) × IsBuilt decls.now (vec_len workers) ended.table made) }
     ensures fine { OnOk result (refusal decls.now (vec_len workers) ≡ None) }
     ensures len { IfOk result (λ ended. IsOfAll (vec_len workers) ended.results) }
     ensures numbered { IfOk result (λ ended. (k : ℕ) (l : _) → k < vec_len workers
-        → (slice_index_or ended.results.left.items k l).sitting.number ≡ k) }
-    ensures back { IfOk result (λ ended. AreBack ended.table.lines ended.table.seats ended.results.left.items) }
-    ensures noted { IfOk result (λ ended. IsTrue setup.notes → (k : ℕ) (l : _) (p : _) → k < vec_len workers
+        → (slice_index_or ended.results.left.items k l).commits.number ≡ k) }
+    ensures back { IfOk result (λ ended. AreAllSeats ended.table.lines ended.table.seats ended.results.left.items) }
+    ensures noted { IfOk result (λ ended. IsTrue setup.audited → (k : ℕ) (l : _) (p : _) → k < vec_len workers
         → (slice_index_or ended.results.plans.items k p).kept
-        ≡ (slice_index_or ended.results.left.items k l).sitting.plans) }
-    ensures came { IfOk result (λ ended. AllCame Q.Came workers.items ended.results.workers.items) }
+        ≡ (slice_index_or ended.results.left.items k l).commits.plans) }
+    ensures came { IfOk result (λ ended. AllRelated Q.Postcondition workers.items ended.results.workers.items) }
     ensures err { IfErr result (IsRefused decls.now (vec_len workers)) }
 {
-    if workers.len() > MOST_SEATS {
+    if workers.len() > MAX_SEATS {
         return Err(RunFault::TooManyWorkers);
     }
     let seats = workers.len() as u16;

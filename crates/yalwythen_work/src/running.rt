@@ -1,12 +1,12 @@
 // A run of workers, from building the table to the report.
 ghost use Rattle.std.specs.Prelude.{IfOk, IfErr, IsTrue, vec_len};
 ghost use Rattle.yalwythen_work.specs.Ran.{IsOfEach, IsRefused, IsRun, IsSerial};
-ghost use Rattle.txc_base_threads.specs.Came.{AllCame};
+ghost use Rattle.txc_base_threads.specs.Postcondition.{AllRelated};
 
-use crate::done::Done;
 use crate::pool::Results;
-use crate::role::InRun;
+use crate::role::WorkerRole;
 use crate::run_fault::RunFault;
+use crate::run_outcome::RunOutcome;
 use crate::run_workers::{EndedWorkers, run_workers};
 use crate::setup::Setup;
 use crate::worker::Worker;
@@ -21,14 +21,14 @@ fn run_with<R: Threads + Wait + Sync, W: Worker<R> + Send + Drop>(
     setup: Setup,
     decls: &[Decl],
     workers: Vec<W>,
-) -> Result<Done<W>, RunFault>
+) -> Result<RunOutcome<W>, RunFault>
     ensures ok { IfOk result (λ done. IsRun decls.now (vec_len workers) done.report) }
-    ensures serial { IfOk result (λ done. IsTrue setup.notes → IsSerial decls.now done) }
+    ensures serial { IfOk result (λ done. IsTrue setup.audited → IsSerial decls.now done) }
     ensures each { IfOk result (λ done. IsOfEach (vec_len workers) done) }
-    ensures came { IfOk result (λ done. AllCame W.Came workers.items done.workers.items) }
+    ensures came { IfOk result (λ done. AllRelated W.Postcondition workers.items done.workers.items) }
     ensures err { IfErr result (IsRefused decls.now (vec_len workers)) }
 {
-    let ended = run_workers::<R, FullLog, W, InRun>(rt, setup, decls, workers)?;
+    let ended = run_workers::<R, FullLog, W, WorkerRole>(rt, setup, decls, workers)?;
     let EndedWorkers { table, results } = ended;
     let Results {
         left,
@@ -40,7 +40,7 @@ fn run_with<R: Threads + Wait + Sync, W: Worker<R> + Send + Drop>(
         return Err(RunFault::NoMemory);
     };
     match idle.finish(rt, setup.alloc) {
-        Ok(report) => Ok(Done {
+        Ok(report) => Ok(RunOutcome {
             report,
             workers,
             ends,
@@ -54,7 +54,7 @@ fn run_with<R: Threads + Wait + Sync, W: Worker<R> + Send + Drop>(
 }
 
 /// Runs each worker in a thread of its own, at a table of these channels with a seat for each worker, and finishes the
-/// table when all workers have ended. Worker `n` has seat `n`. `Came` holds for each worker.
+/// table when all workers have ended. Worker `n` has seat `n`. `Postcondition` holds for each worker.
 ///
 /// Fails with `TooManyWorkers` if there are more than 16 workers, then with `Table` if the table cannot be built, then
 /// with `NoThread` if a thread cannot be started, and with `NoMemory` if allocation fails. `Torn` is never returned. On
@@ -64,34 +64,38 @@ pub fn run<R: Threads + Wait + Sync, W: Worker<R> + Send + Drop>(
     alloc: Global,
     decls: &[Decl],
     workers: Vec<W>,
-) -> Result<Done<W>, RunFault>
+) -> Result<RunOutcome<W>, RunFault>
     ensures ok { IfOk result (λ done. IsRun decls.now (vec_len workers) done.report) }
     ensures serial { IfOk result (IsSerial decls.now) }
     ensures each { IfOk result (λ done. IsOfEach (vec_len workers) done) }
-    ensures came { IfOk result (λ done. AllCame W.Came workers.items done.workers.items) }
+    ensures came { IfOk result (λ done. AllRelated W.Postcondition workers.items done.workers.items) }
     ensures err { IfErr result (IsRefused decls.now (vec_len workers)) }
 {
-    let setup = Setup { alloc, notes: true };
+    let setup = Setup {
+        alloc,
+        audited: true,
+    };
     run_with(rt, setup, decls, workers)
 }
 
 /// Runs workers like `run`, without an audit: a committed transaction leaves its receipt and is not noted.
-/// `Done::audit` of such a run returns `Unmet`, unless nothing was committed. Fails with the same errors as `run`.
+/// `RunOutcome::audit` of such a run returns `Unmet`, unless nothing was committed. Fails with the same errors as
+/// `run`.
 /// Blocks until all threads have ended.
 pub fn run_unaudited<R: Threads + Wait + Sync, W: Worker<R> + Send + Drop>(
     rt: &R,
     alloc: Global,
     decls: &[Decl],
     workers: Vec<W>,
-) -> Result<Done<W>, RunFault>
+) -> Result<RunOutcome<W>, RunFault>
     ensures ok { IfOk result (λ done. IsRun decls.now (vec_len workers) done.report) }
     ensures each { IfOk result (λ done. IsOfEach (vec_len workers) done) }
-    ensures came { IfOk result (λ done. AllCame W.Came workers.items done.workers.items) }
+    ensures came { IfOk result (λ done. AllRelated W.Postcondition workers.items done.workers.items) }
     ensures err { IfErr result (IsRefused decls.now (vec_len workers)) }
 {
     let setup = Setup {
         alloc,
-        notes: false,
+        audited: false,
     };
     run_with(rt, setup, decls, workers)
 }

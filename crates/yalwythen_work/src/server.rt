@@ -9,9 +9,10 @@ use txc_chan::GhostLog;
 pub trait Server<R: Wait> {
     /// The server's own claim about its value before it ran and after it has ended. The contract of `serve` states it
     /// for each server. An `impl` that leaves it out claims nothing.
-    ghost Came: { Self → Self → Type 0 } = { λ _ _. Unit {0} };
+    ghost Postcondition: { Self → Self → Type 0 } = { λ _ _. Unit {0} };
 
-    /// Serves until there is nothing left to do. `Closed` has the value that it returns, and the server's final value.
+    /// Serves until there is nothing left to do. `ServiceOutcome` has the value that it returns, and the server's final
+    /// value.
     fn serve(&mut self, rt: &R, session: &mut Session<'_, GhostLog>) -> Result<(), TransactError>
-        ensures { Came self.old self.new };
+        ensures { Postcondition self.old self.new };
 }

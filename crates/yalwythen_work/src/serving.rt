@@ -1,31 +1,31 @@
 // A service, from building the table to its end.
 ghost use Rattle.std.specs.Prelude.{◌≡◌, IfOk, IfErr, false, vec_len};
 ghost use Rattle.yalwythen_work.specs.Ran.{IsOfAll, IsOfEachServer, IsRefused, IsService};
-ghost use Rattle.txc_base_threads.specs.Came.{AllCame};
+ghost use Rattle.txc_base_threads.specs.Postcondition.{AllRelated};
 ghost use Rattle.txc_table.specs.Finished.{IsFinishedInSummary};
-ghost use Rattle.txc_table.specs.Refused.{AreBack};
+ghost use Rattle.txc_table.specs.Refused.{AreAllSeats};
 
-use crate::closed::Closed;
 use crate::pool::Results;
-use crate::role::InService;
+use crate::role::ServerRole;
 use crate::run_fault::RunFault;
 use crate::run_workers::{EndedWorkers, run_workers};
 use crate::server::Server;
+use crate::service_outcome::ServiceOutcome;
 use crate::setup::Setup;
 use std::alloc::Global;
 use std::sync::Wait;
 use std::thread::Threads;
 use txc_chan::{Decl, GhostLog};
-use txc_table::{FinishFault, LastReceipt, LeftSeat, Table};
+use txc_table::{DepartedSeat, FinishFault, LastReceipt, Table};
 
 /// Finishes the table, once all its servers have ended. Fails with `NoMemory` if allocation fails.
 fn close<R: Wait, W: Drop>(
     rt: &R,
     alloc: Global,
-    ended: EndedWorkers<Table<GhostLog>, LeftSeat<GhostLog, LastReceipt>, W>,
-) -> Result<Closed<W>, RunFault>
+    ended: EndedWorkers<Table<GhostLog>, DepartedSeat<GhostLog, LastReceipt>, W>,
+) -> Result<ServiceOutcome<W>, RunFault>
     requires many { IsOfAll ended.table.seats ended.results }
-    requires back { AreBack ended.table.lines ended.table.seats ended.results.left.items }
+    requires back { AreAllSeats ended.table.lines ended.table.seats ended.results.left.items }
     ensures summaries { IfOk result (λ closed.
         IsFinishedInSummary ended.table ended.results.left.items closed.summaries) }
     ensures each { IfOk result (λ closed. IsOfEachServer ended.table.seats closed) }
@@ -40,7 +40,7 @@ fn close<R: Wait, W: Drop>(
         plans: _,
     } = results;
     match table.finish_in_summary(rt, alloc, left) {
-        Ok(summaries) => Ok(Closed {
+        Ok(summaries) => Ok(ServiceOutcome {
             summaries,
             servers: workers,
             ends,
@@ -61,14 +61,14 @@ fn serve_with<R: Threads + Wait + Sync, W: Server<R> + Send + Drop>(
     setup: Setup,
     decls: &[Decl],
     servers: Vec<W>,
-) -> Result<Closed<W>, RunFault>
-    requires unnoted { setup.notes ≡ false }
+) -> Result<ServiceOutcome<W>, RunFault>
+    requires unnoted { setup.audited ≡ false }
     ensures ok { IfOk result (λ closed. IsService decls.now (vec_len servers) closed.summaries) }
     ensures each { IfOk result (λ closed. IsOfEachServer (vec_len servers) closed) }
-    ensures came { IfOk result (λ closed. AllCame W.Came servers.items closed.servers.items) }
+    ensures came { IfOk result (λ closed. AllRelated W.Postcondition servers.items closed.servers.items) }
     ensures err { IfErr result (IsRefused decls.now (vec_len servers)) }
 {
-    let ended = run_workers::<R, GhostLog, W, InService>(rt, setup, decls, servers)?;
+    let ended = run_workers::<R, GhostLog, W, ServerRole>(rt, setup, decls, servers)?;
     close(rt, setup.alloc, ended)
 }
 
@@ -85,15 +85,15 @@ pub fn serve<R: Threads + Wait + Sync, W: Server<R> + Send + Drop>(
     alloc: Global,
     decls: &[Decl],
     servers: Vec<W>,
-) -> Result<Closed<W>, RunFault>
+) -> Result<ServiceOutcome<W>, RunFault>
     ensures ok { IfOk result (λ closed. IsService decls.now (vec_len servers) closed.summaries) }
     ensures each { IfOk result (λ closed. IsOfEachServer (vec_len servers) closed) }
-    ensures came { IfOk result (λ closed. AllCame W.Came servers.items closed.servers.items) }
+    ensures came { IfOk result (λ closed. AllRelated W.Postcondition servers.items closed.servers.items) }
     ensures err { IfErr result (IsRefused decls.now (vec_len servers)) }
 {
     let setup = Setup {
         alloc,
-        notes: false,
+        audited: false,
     };
     serve_with(rt, setup, decls, servers)
 }

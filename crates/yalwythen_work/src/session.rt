@@ -4,12 +4,13 @@ ghost use Rattle.std.specs.Prelude.{[], length, slice_get};
 ghost use Rattle.txc_base.specs.declared.cause.Cause.{Cause};
 ghost use Rattle.txc_txn_check.specs.Limits.{IsChecked};
 ghost use Rattle.txc_txn_check.specs.Steps.{Fits};
-ghost use Rattle.yalwythen_work.specs.Asked.{IsAsked, HasFailedWith, IsSnapshotError, IsTried, kept_after, last_item};
-ghost use Rattle.yalwythen_work.specs.Asked.{replies_in};
+ghost use Rattle.yalwythen_work.specs.Committed.{HasCommittedSteps, HasFailedWith, IsSnapshotError, IsTried};
+ghost use Rattle.yalwythen_work.specs.Committed.{kept_after, last_item};
+ghost use Rattle.yalwythen_work.specs.Committed.{replies_in};
 ghost use Rattle.yalwythen_work.specs.Drained.{AreRead, IsDrained, reading};
 ghost use Rattle.yalwythen_work.specs.Plans.{KeepsPlans};
 ghost use Rattle.yalwythen_work.specs.SeatWithPlans.{IsAfterSession};
-ghost use Rattle.yalwythen_work.specs.Unready.{IsUnready};
+ghost use Rattle.yalwythen_work.specs.Unready.{IsCheckError};
 ghost use Rattle.txc_table_line.specs.Account.{IsSummary};
 ghost use Rattle.txc_table_line.specs.Line.{decl_at};
 ghost use Rattle.txc_table.specs.Ended.{as_tried};
@@ -22,7 +23,7 @@ mod recorded;
 
 use crate::answers::{found_closed, last_item};
 use crate::gate::OpenGate;
-use crate::one_shot::Vacancy;
+use crate::one_shot::FillPermit;
 use crate::plans::Plans;
 use crate::recording::Recording;
 use crate::seat_with_plans::SeatWithPlans;
@@ -46,7 +47,7 @@ pub struct Session<'a, K: Recording = FullLog> {
     table: &'a Table<K>,
     seat: Seat<K, K::Receipts>,
     plans: Plans,
-    vacancy: Vacancy<'a, K>,
+    permit: FillPermit<'a, K>,
 }
 
 impl<'a, K: Recording> Model for Session<'a, K> {
@@ -60,13 +61,13 @@ impl<'a, K: Recording> Model for Session<'a, K> {
 
     ghost view = { λ session. record {
       table = session.table.now;
-      seat = session.seat.sitting;
-      notes = session.plans.notes;
+      seat = session.seat.commits;
+      audited = session.plans.audited;
       plans = session.plans.kept;
       prepared = session.plans.prepared;
     } };
 
-    ghost invariant = { λ session. IsSession session.vacancy session.table.now session.seat session.plans };
+    ghost invariant = { λ session. IsSession session.permit session.table.now session.seat session.plans };
 }
 
 impl<K: Recording> Drop for Session<'_, K> {
@@ -76,9 +77,9 @@ impl<K: Recording> Drop for Session<'_, K> {
             table: _,
             seat,
             plans,
-            vacancy,
+            permit,
         } = self;
-        vacancy.fill(SeatWithPlans { seat, plans });
+        permit.fill(SeatWithPlans { seat, plans });
     }
 }
 
@@ -88,9 +89,9 @@ fn ready(plans: &mut Plans, steps: Vec<Step>, kinds: &[Kind]) -> Result<Checked,
     ensures steps { IfOk result (λ plan. plan.steps ≡ steps.items) }
     ensures checked { IfOk result (λ plan. IsChecked plan) }
     ensures fits { IfOk result (λ plan. Fits (slice_get kinds.now) plan.steps) }
-    ensures err { IfErr result (IsUnready kinds.now steps.items) }
-    ensures room { OnOk result (IsTrue plans.new.notes → 0 < plans.new.room) }
-    ensures once { OnOk result (IsTrue plans.new.notes → 0 < plans.new.room_once) }
+    ensures err { IfErr result (IsCheckError kinds.now steps.items) }
+    ensures room { OnOk result (IsTrue plans.new.audited → 0 < plans.new.room) }
+    ensures once { OnOk result (IsTrue plans.new.audited → 0 < plans.new.room_once) }
     ensures same { KeepsPlans plans.old plans.new }
 {
     let plan = Checked::check(steps, kinds)?;
@@ -100,7 +101,7 @@ fn ready(plans: &mut Plans, steps: Vec<Step>, kinds: &[Kind]) -> Result<Checked,
 }
 
 /// Returns the number of the receipt of a transaction that ended like this. Fails with `Stalled` if it stalled.
-fn number_of(ended: Ended) -> Result<usize, TransactError>
+fn receipt_number(ended: Ended) -> Result<usize, TransactError>
     ensures kept { IfOk result (λ number. as_tried ended ≡ Tried.Kept number) }
     ensures stalled { IfErr result (λ error. (cause : Cause) × (error ≡ TransactError.Stalled cause)
         × (as_tried ended ≡ Tried.Retry cause)) }
@@ -112,12 +113,12 @@ fn number_of(ended: Ended) -> Result<usize, TransactError>
 }
 
 /// Notes this transaction if this try of it committed. There must be capacity for it.
-fn note_tried(plans: &mut Plans, plan: Checked, tried: Tried)
-    requires room { IsTrue plans.old.notes → 0 < plans.old.room }
-    requires once { IsTrue plans.old.notes → 0 < plans.old.room_once }
-    ensures kept { plans.new.kept ≡ kept_after plans.old.notes plans.old.kept plan tried }
+fn note_if_kept(plans: &mut Plans, plan: Checked, tried: Tried)
+    requires room { IsTrue plans.old.audited → 0 < plans.old.room }
+    requires once { IsTrue plans.old.audited → 0 < plans.old.room_once }
+    ensures kept { plans.new.kept ≡ kept_after plans.old.audited plans.old.kept plan tried }
     ensures prepared { plans.new.prepared ≡ plans.old.prepared }
-    ensures notes { plans.new.notes ≡ plans.old.notes }
+    ensures audited { plans.new.audited ≡ plans.old.audited }
 {
     match tried {
         Tried::Kept(_) => plans.note(plan),
@@ -132,10 +133,10 @@ impl<'a, K: Recording> Session<'a, K> {
         alloc: Global,
         table: &'a Table<K>,
         both: SeatWithPlans<K>,
-        vacancy: Vacancy<'a, K>,
+        permit: FillPermit<'a, K>,
     ) -> Session<'a, K>
         requires of { both.seat.lines ≡ table.now.lines }
-        requires its { IsAfterSession vacancy both }
+        requires its { IsAfterSession permit both }
         requires unprepared { both.plans.prepared ≡ [] }
     {
         let SeatWithPlans { seat, plans } = both;
@@ -144,7 +145,7 @@ impl<'a, K: Recording> Session<'a, K> {
             table,
             seat,
             plans,
-            vacancy,
+            permit,
         }
     }
 }
@@ -179,13 +180,13 @@ impl<K: Recording> Session<'_, K> {
     /// for, in a channel that the transaction names. It can block forever if some other running worker never runs a
     /// transaction, waits or ends.
     pub fn transact<R: Wait>(&mut self, rt: &R, steps: Vec<Step>) -> Result<usize, TransactError>
-        ensures asked { IfOk result (λ number. IsAsked self.old steps.items number self.new) }
+        ensures committed { IfOk result (λ number. HasCommittedSteps self.old steps.items number self.new) }
         ensures failed { IfErr result (λ error. HasFailedWith self.old steps.items error) }
         ensures same { OnErr result (self.new ≡ self.old) }
     {
         let plan = ready(&mut self.plans, steps, self.table.kinds())?;
         let ended = self.table.transact(rt, self.alloc, &mut self.seat, &plan)?;
-        let number = number_of(ended)?;
+        let number = receipt_number(ended)?;
         self.plans.note(plan);
         Ok(number)
     }
@@ -226,7 +227,7 @@ impl<K: Recording> Session<'_, K> {
         let tried = self
             .table
             .attempt_through(rt, self.alloc, &mut self.seat, &plan, gate)?;
-        note_tried(&mut self.plans, plan, tried);
+        note_if_kept(&mut self.plans, plan, tried);
         Ok(tried)
     }
 
@@ -251,7 +252,7 @@ impl<K: Recording> Session<'_, K> {
         let tried = self
             .table
             .transact_until(rt, self.alloc, &mut self.seat, &plan, until)?;
-        note_tried(&mut self.plans, plan, tried);
+        note_if_kept(&mut self.plans, plan, tried);
         Ok(tried)
     }
 
@@ -262,7 +263,7 @@ impl<K: Recording> Session<'_, K> {
         rt: &R,
         steps: [Step; N],
     ) -> Result<(), TransactError>
-        ensures asked { IfOk result (λ _. (number : ℕ) × IsAsked self.old steps.entry number self.new) }
+        ensures committed { IfOk result (λ _. (number : ℕ) × HasCommittedSteps self.old steps.entry number self.new) }
         ensures failed { IfErr result (λ error. HasFailedWith self.old steps.entry error) }
         ensures same { OnErr result (self.new ≡ self.old) }
     {
@@ -279,7 +280,7 @@ impl<K: Recording> Session<'_, K> {
         rt: &R,
         steps: [Step; N],
     ) -> Result<Option<Item>, TransactError>
-        ensures asked { IfOk result (λ item. (number : ℕ) × IsAsked self.old steps.entry number self.new
+        ensures committed { IfOk result (λ item. (number : ℕ) × HasCommittedSteps self.old steps.entry number self.new
             × (item ≡ last_item (replies_in (slice_get self.new.seat.receipts number)))) }
         ensures failed { IfErr result (λ error. HasFailedWith self.old steps.entry error) }
         ensures same { OnErr result (self.new ≡ self.old) }

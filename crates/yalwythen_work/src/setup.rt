@@ -7,5 +7,5 @@ pub(crate) struct Setup {
     /// The allocator.
     pub(crate) alloc: Global,
     /// Whether committed transactions are noted for the audit.
-    pub(crate) notes: bool,
+    pub(crate) audited: bool,
 }

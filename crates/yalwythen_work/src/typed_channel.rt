@@ -3,7 +3,7 @@ ghost use Rattle.std.specs.Prelude.{◌≡◌, ◌∷◌, [], ℕ, slice_get, If
 ghost use Rattle.txc_base.specs.declared.op.Op.{Op};
 ghost use Rattle.txc_base.specs.declared.source.Source.{Source};
 ghost use Rattle.txc_txn_check.specs.declared.step.Step.{Step};
-ghost use Rattle.yalwythen_work.specs.Asked.{IsAsked, HasFailedWith, found_closed, replies_in};
+ghost use Rattle.yalwythen_work.specs.Committed.{HasCommittedSteps, HasFailedWith, found_closed, replies_in};
 ghost use Rattle.yalwythen_work.specs.ReadOutcome.{IsOfRead, is_end};
 ghost use Rattle.yalwythen_work.specs.SendOutcome.{was_closed};
 
@@ -88,8 +88,8 @@ impl<'a, V: Drop> TypedChannel<'a, V> {
         session: &mut Session<'_, K>,
         key: u64,
     ) -> Result<usize, TransactError>
-        ensures asked { IfOk result (λ number.
-            IsAsked session.old (Step.Do (Op.Write self.now.chan (Source.Lit key)) ∷ []) number session.new) }
+        ensures committed { IfOk result (λ number.
+            HasCommittedSteps session.old (Step.Do (Op.Write self.now.chan (Source.Lit key)) ∷ []) number session.new) }
         ensures failed { IfErr result
             (HasFailedWith session.old (Step.Do (Op.Write self.now.chan (Source.Lit key)) ∷ [])) }
         ensures same { OnErr result (session.new ≡ session.old) }
@@ -110,8 +110,8 @@ impl<'a, V: Drop> TypedChannel<'a, V> {
         session: &mut Session<'_, K>,
         value: V,
     ) -> Result<SendOutcome<V>, SendError<V>>
-        ensures asked { IfOk result (λ sent. (key number : ℕ)
-            × IsAsked session.old (Step.Do (Op.Write self.now.chan (Source.Lit key)) ∷ []) number session.new
+        ensures committed { IfOk result (λ sent. (key number : ℕ)
+            × HasCommittedSteps session.old (Step.Do (Op.Write self.now.chan (Source.Lit key)) ∷ []) number session.new
             × (was_closed sent ≡ found_closed (replies_in (slice_get session.new.seat.receipts number)))) }
         ensures failed { IfErr result (λ unsent. (key : ℕ)
             × HasFailedWith session.old (Step.Do (Op.Write self.now.chan (Source.Lit key)) ∷ []) unsent.error) }
@@ -145,8 +145,8 @@ impl<'a, V: Drop> TypedChannel<'a, V> {
         rt: &R,
         session: &mut Session<'_, K>,
     ) -> Result<ReadOutcome<V>, TransactError>
-        ensures asked { IfOk result (λ received. (number : ℕ)
-            × IsAsked session.old (Step.Do (Op.Read self.now.chan 0) ∷ []) number session.new
+        ensures committed { IfOk result (λ received. (number : ℕ)
+            × HasCommittedSteps session.old (Step.Do (Op.Read self.now.chan 0) ∷ []) number session.new
             × IsOfRead (is_end received) (replies_in (slice_get session.new.seat.receipts number))) }
         ensures failed { IfErr result (HasFailedWith session.old (Step.Do (Op.Read self.now.chan 0) ∷ [])) }
         ensures same { OnErr result (session.new ≡ session.old) }

@@ -7,9 +7,10 @@ use std::sync::Wait;
 pub trait Worker<R: Wait> {
     /// The worker's own claim about its value before it ran and after it has ended. The contract of `run` states it for
     /// each worker. An `impl` that leaves it out claims nothing.
-    ghost Came: { Self → Self → Type 0 } = { λ _ _. Unit {0} };
+    ghost Postcondition: { Self → Self → Type 0 } = { λ _ _. Unit {0} };
 
-    /// Works until there is nothing left to do. `Done` has the value that it returns, and the worker's final value.
+    /// Works until there is nothing left to do. `RunOutcome` has the value that it returns, and the worker's final
+    /// value.
     fn work(&mut self, rt: &R, session: &mut Session<'_>) -> Result<(), TransactError>
-        ensures { Came self.old self.new };
+        ensures { Postcondition self.old self.new };
 }

@@ -1,14 +1,14 @@
 // Examples of lawful logs, of unlawful logs, and of lists that break a law. The checker computes each clause.
 ghost use Rattle.std.specs.Prelude.{◌≡◌, ◌++◌, Some, None, [], ◌∷◌};
 ghost use Rattle.txc_base.specs.Channel.{opening};
-ghost use Rattle.txc_base.specs.declared.limits.TheConstants.{MOST_READERS};
+ghost use Rattle.txc_base.specs.declared.limits.TheConstants.{MAX_READERS};
 ghost use Rattle.txc_base.specs.Counts.{IsCounted};
 ghost use Rattle.txc_base.specs.Examples.{w, b};
-ghost use Rattle.txc_base.specs.Fair.{IsFair};
+ghost use Rattle.txc_base.specs.InOrder.{IsInOrder};
 ghost use Rattle.txc_base.specs.Log.{state, entries};
 ghost use Rattle.txc_base.specs.Next.{IsNext};
 ghost use Rattle.txc_base.specs.Once.{IsOnce};
-ghost use Rattle.txc_base.specs.Shut.{IsShut};
+ghost use Rattle.txc_base.specs.StaysClosedLaw.{StaysClosed};
 ghost use Rattle.txc_base.specs.declared.act.Act.TheVariants.{Wrote, Took, PutBack, Closed, Begun, Cloned};
 ghost use Rattle.txc_base.specs.declared.kind.Kind.TheVariants.{Queue, Bounded, Cast, MQueue, BMQueue, MCast};
 ghost use Rattle.txc_base_laws.specs.Examples.{by, logged, left, GetsItsDue};
@@ -61,7 +61,7 @@ fn a_log_with_an_unlawful_entry_leaves_nothing()
         ∷ []) ≡ None }
     ensures queue_gets_a_reader { left Queue 0 1 (Begun 1 ∷ []) ≡ None }
     ensures reader_out_of_turn { left Cast 0 1 (Begun 2 ∷ []) ≡ None }
-    ensures one_reader_too_many { left Cast 0 MOST_READERS (Begun MOST_READERS ∷ []) ≡ None }
+    ensures one_reader_too_many { left Cast 0 MAX_READERS (Begun MAX_READERS ∷ []) ≡ None }
     ensures clone_of_no_reader { left Cast 0 1 (Cloned 1 1 ∷ []) ≡ None }
 {}
 
@@ -87,11 +87,12 @@ fn each_reader_is_served_from_where_it_began()
 {}
 
 fn lists_that_are_not_fair_are_refused()
-    ensures an_item_is_lost { IsFair (logged (Wrote (w 0 1) ∷ [])) ([] ∷ []) → ⊥ }
-    ensures items_change_places { IsFair (logged (Wrote (w 0 1) ∷ Wrote (w 1 2) ∷ [])) ((w 1 2 ∷ w 0 1 ∷ []) ∷ []) → ⊥ }
-    ensures duplicate_begins_at_the_first { IsFair (logged (Wrote (w 0 1) ∷ Begun 1 ∷ []))
+    ensures an_item_is_lost { IsInOrder (logged (Wrote (w 0 1) ∷ [])) ([] ∷ []) → ⊥ }
+    ensures items_change_places { IsInOrder (logged (Wrote (w 0 1) ∷ Wrote (w 1 2) ∷ [])) ((w 1 2 ∷ w 0 1 ∷ []) ∷ [])
+        → ⊥ }
+    ensures duplicate_begins_at_the_first { IsInOrder (logged (Wrote (w 0 1) ∷ Begun 1 ∷ []))
         ((w 0 1 ∷ []) ∷ (w 0 1 ∷ []) ∷ []) → ⊥ }
-    ensures clone_skips_an_item { IsFair (logged (Wrote (w 0 1) ∷ Wrote (w 1 2) ∷ Took 0 (w 0 1) ∷ Cloned 0 1 ∷ []))
+    ensures clone_skips_an_item { IsInOrder (logged (Wrote (w 0 1) ∷ Wrote (w 1 2) ∷ Took 0 (w 0 1) ∷ Cloned 0 1 ∷ []))
         ((w 1 2 ∷ []) ∷ [] ∷ []) → ⊥ }
 {}
 
@@ -100,7 +101,7 @@ fn lists_and_logs_that_break_another_law_are_refused()
         ((w 0 1 ∷ b 0 9 ∷ []) ∷ []) → ⊥ }
     ensures put_back_is_passed_over { IsNext (logged (Wrote (w 0 1) ∷ PutBack 0 (b 0 9) ∷ Took 0 (w 0 1) ∷ []))
         ((b 0 9 ∷ []) ∷ []) → ⊥ }
-    ensures written_after_the_closing { IsShut (logged (Closed ∷ Wrote (w 0 1) ∷ [])) → ⊥ }
+    ensures written_after_the_closing { StaysClosed (logged (Closed ∷ Wrote (w 0 1) ∷ [])) → ⊥ }
     ensures taken_twice { IsOnce (logged (Wrote (w 0 1) ∷ Took 0 (w 0 1) ∷ Took 0 (w 0 1) ∷ [])) [] → ⊥ }
     ensures an_item_is_lost { IsOnce (logged (Wrote (w 0 1) ∷ [])) [] → ⊥ }
     ensures an_item_is_made { IsOnce (logged []) (b 0 9 ∷ []) → ⊥ }

@@ -17,21 +17,21 @@ use txc_base::{Reply, Stop};
 
 impl<K: Log> Chan<K> {
     // Replies with a reader's next item. The form decides the result if an open channel has nothing to read.
-    pub(super) fn peek(&self, reader: u16, form: Mode) -> Result<Answer, Stop>
+    pub(super) fn peek(&self, reader: u16, mode: Mode) -> Result<Answer, Stop>
         requires { is_broadcast self.now.logged.channel.kind ≡ false → reader ≡ 0 }
         ensures ok { let c = self.now.logged.channel in (tag : Tag)
             → IfOk result (λ a. on_log self.now.logged tag (with_list (list_of c reader)
-            (showing c (unchanged (at_end form) c))) ≡ did a self.now.logged) }
+            (showing c (unchanged (at_end mode) c))) ≡ did a self.now.logged) }
         ensures err { let c = self.now.logged.channel in (tag : Tag)
             → IfErr result (λ e. e ≢ Stop.NoMemory
-            → on_log self.now.logged tag (with_list (list_of c reader) (showing c (unchanged (at_end form) c)))
+            → on_log self.now.logged tag (with_list (list_of c reader) (showing c (unchanged (at_end mode) c)))
             ≡ Stopped e) }
         ensures refused { IfErr result (λ e. e ≡ Stop.NoReader) }
     {
         match self.body.front(reader)? {
             Some(item) => Ok(Answer::Replied(Reply::Got(item))),
             None if self.closed => Ok(Answer::Replied(Reply::Closed)),
-            None => Ok(form.at_end()),
+            None => Ok(mode.at_end()),
         }
     }
 

@@ -10,7 +10,7 @@ ghost use Rattle.txc_chan.specs.Logged.{Left, Stopped, Waiting, on_log, unsettle
 
 use crate::chan::Chan;
 use crate::log::Log;
-use crate::steps::made_item;
+use crate::steps::make_item;
 use txc_base::{Act, Entry, Item, Origin, Stop, Tag};
 use txc_cast::Append;
 
@@ -56,7 +56,7 @@ impl<K: Log> Chan<K> {
         if self.log.reserve_settled().is_err() {
             return CommitOutcome::NoMemory;
         }
-        let item = made_item(tag, Origin::Written(self.written), body);
+        let item = make_item(tag, Origin::Written(self.written), body);
         if self.body.write(rt, item).is_err() {
             return CommitOutcome::NoMemory;
         }

@@ -1,15 +1,15 @@
 // Operations that are committed at once, by their names.
 ghost use Rattle.std.specs.Prelude.{◌≡◌, None, false, true, IfNone, IfOk, IfSome, OnErr};
 ghost use Rattle.txc_base.specs.Channel.{list_of};
-ghost use Rattle.txc_base.specs.Kinds.{is_broadcast, suits};
+ghost use Rattle.txc_base.specs.Kinds.{is_broadcast, supports};
 ghost use Rattle.txc_base.specs.Operation.{Did, body_of, operate, taking, with_list};
 ghost use Rattle.txc_chan.specs.Chan.{writing};
-ghost use Rattle.txc_chan.specs.Committed.{HasNoAct, IsCommitted, IsCommittedOp, is_move};
+ghost use Rattle.txc_chan.specs.Committed.{HasNoAct, IsCommitted, IsCommittedOp, is_read_or_write};
 
 use crate::chan::Chan;
 use crate::chan::commit::CommitOutcome;
 use crate::log::Log;
-use crate::steps::made_item;
+use crate::steps::make_item;
 use std::alloc::AllocError;
 use txc_base::{Act, Op, Origin, Source, Stop, Tag};
 use txc_cast::Append;
@@ -35,7 +35,7 @@ impl<K: Log> Chan<K> {
         let Source::Lit(body) = body else {
             return Ok(None);
         };
-        let item = made_item(tag, Origin::Written(self.written), body);
+        let item = make_item(tag, Origin::Written(self.written), body);
         match self.commit_write(rt, tag, body) {
             CommitOutcome::Done => Ok(Some(Act::Wrote(item))),
             CommitOutcome::NoMemory => Err(AllocError),
@@ -57,7 +57,7 @@ impl<K: Log> Chan<K> {
             IfOk result (λ found. IfNone found (HasNoAct (with_list (list_of c reader) (taking c reader empty)))) }
         ensures unchanged { OnErr result (self.new.logged ≡ self.old.logged) }
     {
-        let mut item = made_item(tag, Origin::Written(0), 0);
+        let mut item = make_item(tag, Origin::Written(0), 0);
         match self.commit_take(tag, reader, &mut item) {
             Ok(CommitOutcome::Done) => Ok(Some(Act::Took(reader, item))),
             Err(Stop::NoMemory) => Err(AllocError),
@@ -78,11 +78,11 @@ impl<K: Log> Chan<K> {
         op: &Op,
     ) -> Result<Option<Act>, AllocError>
         requires clean { self.old.logged.pending ≡ 0 }
-        requires suits { suits self.old.logged.decl.kind op.now ≡ true }
+        requires supports { supports self.old.logged.decl.kind op.now ≡ true }
         ensures done { IfOk result (λ found. IfSome found (λ act.
             IsCommittedOp tag op.now act self.old.logged self.new.logged)) }
         ensures left { IfOk result (λ found. IfNone found (self.new.logged ≡ self.old.logged)) }
-        ensures none { is_move op.now ≡ true → IfOk result (λ found. IfNone found
+        ensures none { is_read_or_write op.now ≡ true → IfOk result (λ found. IfNone found
             (HasNoAct (operate self.old.logged.channel tag.seat None op.now))) }
         ensures unchanged { OnErr result (self.new.logged ≡ self.old.logged) }
     {

@@ -6,7 +6,7 @@ ghost use Rattle.txc_chan.specs.Chan.{putting_back, Does};
 use crate::answer::Answer;
 use crate::chan::Chan;
 use crate::log::Log;
-use crate::steps::made_item;
+use crate::steps::make_item;
 use txc_base::{Act, Cause, Entry, Origin, Reply, Stop, Tag};
 
 impl<K: Log> Chan<K> {
@@ -29,11 +29,11 @@ impl<K: Log> Chan<K> {
         if self.closed {
             return Ok(Answer::Replied(Reply::Closed));
         }
-        if self.body.is_closed_to_backs(self.decl.kind) {
+        if self.body.put_back_must_wait(self.decl.kind) {
             return Ok(Answer::Retry(Cause::Full));
         }
         self.log.reserve(1)?;
-        let item = made_item(tag, Origin::Back(self.backs), body);
+        let item = make_item(tag, Origin::Back(self.backs), body);
         self.body.put_back(reader, item)?;
         self.log.push_reserved(Entry {
             tag,

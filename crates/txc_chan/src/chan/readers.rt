@@ -17,7 +17,7 @@ impl<K: Log> Chan<K> {
         requires { is_broadcast self.old.logged.channel.kind ≡ true }
         ensures { Does (reader_made self.old.logged.channel Begun []) tag self.old result self.new }
     {
-        if self.body.has_no_place() {
+        if self.body.is_at_reader_limit() {
             return Err(Stop::TooManyReaders);
         }
         self.log.reserve(1)?;
@@ -38,7 +38,7 @@ impl<K: Log> Chan<K> {
         if !self.body.has_reader(source) {
             return Err(Stop::NoReader);
         }
-        if self.body.has_no_place() {
+        if self.body.is_at_reader_limit() {
             return Err(Stop::TooManyReaders);
         }
         self.log.reserve(1)?;

@@ -16,17 +16,17 @@ use txc_base::{Act, Entry, List, Reply, Stop, Tag};
 
 impl<K: Log> Chan<K> {
     // Takes a reader's next item. The form decides the result if an open channel has nothing to read.
-    pub(super) fn take(&mut self, tag: Tag, reader: u16, form: Mode) -> Result<Answer, Stop>
+    pub(super) fn take(&mut self, tag: Tag, reader: u16, mode: Mode) -> Result<Answer, Stop>
         requires { is_broadcast self.old.logged.channel.kind ≡ false → reader ≡ 0 }
         ensures { let c = self.old.logged.channel in
-            Does (with_list (list_of c reader) (taking c reader (unchanged (at_end form) c))) tag
+            Does (with_list (list_of c reader) (taking c reader (unchanged (at_end mode) c))) tag
             self.old result self.new }
     {
         if self.body.front(reader)?.is_none() {
             if self.closed {
                 return Ok(Answer::Replied(Reply::Closed));
             }
-            return Ok(form.at_end());
+            return Ok(mode.at_end());
         }
         self.log.reserve(1)?;
         let Some(item) = self.body.take(reader)? else {

@@ -1,6 +1,6 @@
 // Undoing the last changes.
 ghost use Rattle.std.specs.Prelude.{◌≡◌, ◌<◌};
-ghost use Rattle.txc_chan.specs.Logged.{IsLawful, Undone, settled};
+ghost use Rattle.txc_chan.specs.Logged.{MatchesLog, Undone, settled};
 
 use crate::chan::Chan;
 use crate::log::Log;
@@ -36,7 +36,7 @@ impl<K: Log> Chan<K> {
     pub fn undo_last(&mut self)
         requires { 0 < self.old.logged.pending }
         ensures undone { Undone self.old.logged self.new.logged }
-        ensures lawful { IsLawful self.new.logged }
+        ensures lawful { MatchesLog self.new.logged }
         ensures shelf { self.new.shelf ≡ self.old.shelf }
     {
         self.take_back();

@@ -1,7 +1,7 @@
 // Operations that have to wait.
 ghost use Rattle.std.specs.Prelude.{◌≡◌, ℕ, None, Some, false, true, IfSome};
 ghost use Rattle.txc_base.specs.Channel.{list_of};
-ghost use Rattle.txc_base.specs.Kinds.{is_broadcast, suits};
+ghost use Rattle.txc_base.specs.Kinds.{is_broadcast, supports};
 ghost use Rattle.txc_base.specs.Operation.{Waits, operate, taking, with_list};
 ghost use Rattle.txc_base.specs.declared.cause.Cause.TheVariants.{Empty, Full};
 ghost use Rattle.txc_chan.specs.Chan.{writing};
@@ -32,7 +32,7 @@ impl<K: Log> Chan<K> {
     /// `None` for any other operation, for one that does not wait, and for a write of the body that was read last. The
     /// kind of the channel must have the operation.
     pub fn cause_to_wait(&self, op: &Op) -> Option<Cause>
-        requires suits { suits self.now.logged.decl.kind op.now ≡ true }
+        requires supports { supports self.now.logged.decl.kind op.now ≡ true }
         ensures { (seat : ℕ) → IfSome result (λ cause.
             operate self.now.logged.channel seat None op.now ≡ Waits cause) }
     {

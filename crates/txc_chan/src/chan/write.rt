@@ -6,7 +6,7 @@ use crate::answer::Answer;
 use crate::chan::Chan;
 use crate::log::Log;
 use crate::mode::Mode;
-use crate::steps::made_item;
+use crate::steps::make_item;
 use txc_base::{Act, Entry, Origin, Reply, Stop, Tag};
 use txc_cast::Append;
 
@@ -18,10 +18,10 @@ impl<K: Log> Chan<K> {
         rt: &R,
         tag: Tag,
         body: Option<u64>,
-        form: Mode,
+        mode: Mode,
     ) -> Result<Answer, Stop>
         ensures { let c = self.old.logged.channel in
-            Does (writing c tag.seat body (unchanged (at_bound form) c)) tag self.old result self.new }
+            Does (writing c tag.seat body (unchanged (at_bound mode) c)) tag self.old result self.new }
     {
         let Some(body) = body else {
             return Err(Stop::NothingRead);
@@ -30,10 +30,10 @@ impl<K: Log> Chan<K> {
             return Ok(Answer::Replied(Reply::Closed));
         }
         if self.body.is_full() {
-            return Ok(form.at_bound());
+            return Ok(mode.at_bound());
         }
         self.log.reserve(1)?;
-        let item = made_item(tag, Origin::Written(self.written), body);
+        let item = make_item(tag, Origin::Written(self.written), body);
         self.body.write(rt, item)?;
         self.log.push_reserved(Entry {
             tag,

@@ -3,7 +3,7 @@ ghost use Rattle.std.specs.Prelude.{◌≡◌, ◌≢◌, ◌%◌, [], ◌∷◌
 ghost use Rattle.std.specs.Prelude.{slice_get};
 ghost use Rattle.std.specs.Int.{bit_at};
 ghost use Rattle.txc_base.specs.declared.cause.Cause.{Cause as Causes};
-ghost use Rattle.txc_base.specs.declared.limits.TheConstants.{MOST_SEATS_OF_LARGE};
+ghost use Rattle.txc_base.specs.declared.limits.TheConstants.{MAX_SEATS_OF_LARGE};
 ghost use Rattle.txc_base.specs.declared.op.Op.{Op as Ops};
 ghost use Rattle.txc_base.specs.Op.{chan_of};
 ghost use Rattle.txc_txn_check.specs.declared.step.Step.TheVariants.{Do};
@@ -44,26 +44,6 @@ struct Call<'a> {
     checked: &'a Checked,
 }
 
-/// Returns the operation of a transaction whose only step it is.
-fn only_operation(checked: &Checked) -> Option<&Op>
-    ensures some { IfSome result (λ op.
-        (checked.now.steps ≡ Do op.now ∷ []) × (checked.now.declared ≡ chan_of op.now ∷ [])) }
-    ensures none { IfNone result ((op : Ops) → checked.now.steps ≡ Do op ∷ []
-        → checked.now.declared ≢ chan_of op ∷ []) }
-{
-    let steps = checked.steps();
-    // The numbers of the channels that the operations are on: here that of the one operation. The comparison with it
-    // saves a proof of that.
-    let declared = checked.declared();
-    if steps.len() != 1 || declared.len() != 1 {
-        return None;
-    }
-    match &steps[0] {
-        Step::Do(op) if declared[0] == op.chan() => Some(op),
-        _ => None,
-    }
-}
-
 impl<K: Log> Table<K> {
     /// Commits a transaction of one operation at once, on its line alone, if it can. The receipt has the tag of the
     /// try. Returns `Committed` if the transaction committed: the receipt is then the transaction's. Returns
@@ -95,7 +75,7 @@ impl<K: Log> Table<K> {
         ensures same { OnErr result (shares.new ≡ shares.old) }
     {
         let checked = call.checked;
-        let Some(op) = only_operation(checked) else {
+        let Some(op) = checked.only_operation() else {
             return Ok(AtOnce::NotDone);
         };
         checked.show_fits(self.kinds.as_slice());
@@ -170,8 +150,8 @@ impl<K: Log> Table<K> {
         ensures lines { line_ids shares.new ≡ line_ids shares.old }
         ensures same { OnErr result (shares.new ≡ shares.old) }
     {
-        let spent = mem::replace(receipt, Receipt::blank(call.alloc));
-        match self.run_held(rt, spent, call, shares, gate)? {
+        let recycled = mem::replace(receipt, Receipt::blank(call.alloc));
+        match self.run_held(rt, recycled, call, shares, gate)? {
             Ran::Kept(kept) => {
                 *receipt = kept;
                 Ok(None)
@@ -181,11 +161,11 @@ impl<K: Log> Table<K> {
     }
 
     /// Runs a transaction on its channels while their locks are held, after the gate was called. A commit counts in the
-    /// shares, and its receipt reuses the memory of the spent one.
+    /// shares, and its receipt reuses the memory of the recycled one.
     fn run_held<R: Wait, G: Gate>(
         &self,
         rt: &R,
-        spent: Receipt,
+        recycled: Receipt,
         call: &Call<'_>,
         shares: &mut SeatShares<K>,
         gate: Option<&mut G>,
@@ -193,63 +173,28 @@ impl<K: Log> Table<K> {
         requires of { line_ids shares.old ≡ self.now.lines.all }
         requires fits { Fits (slice_get self.now.kinds) call.now.checked.now.steps }
         ensures outcome { let plan = call.now.checked.now in IfOk result (λ ran. (m : Map) × AreKnown shares.old m
-            × Answers (kept_tag m spent.tag plan.declared)
-            (transaction m spent.tag plan.declared plan.steps) ran) }
+            × Answers (kept_tag m recycled.tag plan.declared)
+            (transaction m recycled.tag plan.declared plan.steps) ran) }
         ensures stopped { let plan = call.now.checked.now in IfErr result (λ stop. stop ≢ Stop.NoMemory
             → (m : Map) × AreKnown shares.old m
-            × (transaction m spent.tag plan.declared plan.steps ≡ Aborted stop)) }
+            × (transaction m recycled.tag plan.declared plan.steps ≡ Aborted stop)) }
         ensures kept { IfOk result (λ ran. IfKept ran
-            (IsKeptWith spent.tag call.now.checked.now shares.old shares.new)) }
+            (IsKeptWith recycled.tag call.now.checked.now shares.old shares.new)) }
         ensures retried { IfOk result (λ ran. IfRetry ran (shares.new ≡ shares.old)) }
         ensures lines { line_ids shares.new ≡ line_ids shares.old }
         ensures same { OnErr result (shares.new ≡ shares.old) }
     {
         let checked = call.checked;
-        let tag = spent.tag;
+        let tag = recycled.tag;
         checked.show_fits(self.kinds.as_slice());
         checked.show();
         let mut guards = Guards::take(rt, &self.lines, checked.declared(), shares);
         if let Some(gate) = gate {
             gate.pass();
         }
-        let ran = guards.commit(rt, spent, tag, checked, shares);
+        let ran = guards.commit(rt, recycled, tag, checked, shares);
         guards.release();
         ran
-    }
-
-    /// Tries a transaction like `attempt_through`, but does not notify waiting seats.
-    fn try_through<S: Receipts, R: Wait, G: Gate>(
-        &self,
-        rt: &R,
-        alloc: Global,
-        seat: &mut Seat<K, S>,
-        checked: &Checked,
-        gate: Option<&mut G>,
-    ) -> Result<Tried, Stop>
-        requires of { seat.old.lines ≡ self.now.lines }
-        requires fits { Fits (slice_get self.now.kinds) checked.now.steps }
-        ensures outcome { IsAttempted (λ tried. tried) (decls_of self.now.lines) checked.now seat.old result seat.new }
-        ensures lines { seat.new.lines ≡ seat.old.lines }
-    {
-        let Seat {
-            history,
-            shares,
-            member: _,
-            draft,
-        } = seat;
-        history.reserve()?;
-        // The draft is blank or a receipt that is no longer read, so each try sets the tag.
-        let receipt = &mut draft.receipt;
-        receipt.tag = history.next_tag();
-        let call = Call { alloc, checked };
-        match self.run(rt, &call, shares, gate, receipt) {
-            Ok(None) => {}
-            Ok(Some(cause)) => return Ok(Tried::Retry(cause)),
-            Err(stop) => return Err(stop),
-        }
-        shares.show();
-        history.show();
-        Ok(Tried::Kept(history.keep(alloc, checked, draft)))
     }
 
     /// Tries a transaction once, like `attempt`, and calls the gate once, after the last lock is acquired and before
@@ -273,7 +218,7 @@ impl<K: Log> Table<K> {
 
     /// Tries a transaction once, and notifies the other seats that wait for what its commit changed. Calls the gate if
     /// there is one.
-    fn attempt_with<S: Receipts, R: Wait, G: Gate>(
+    pub(super) fn attempt_with<S: Receipts, R: Wait, G: Gate>(
         &self,
         rt: &R,
         alloc: Global,
@@ -286,22 +231,38 @@ impl<K: Log> Table<K> {
         ensures outcome { IsAttempted (λ tried. tried) (decls_of self.now.lines) checked.now seat.old result seat.new }
         ensures lines { seat.new.lines ≡ seat.old.lines }
     {
-        let tried = self.try_through(rt, alloc, seat, checked, gate)?;
-        if matches!(tried, Tried::Kept(_)) {
-            let registered = self.take_registered_for(seat.number(), seat.last_acts());
-            self.wait_queue.notify(rt, registered);
+        let Seat {
+            history,
+            shares,
+            table_share: _,
+            draft,
+        } = seat;
+        history.reserve()?;
+        // The draft is blank or a receipt that is no longer read, so each try sets the tag.
+        let receipt = &mut draft.receipt;
+        receipt.tag = history.next_tag();
+        let call = Call { alloc, checked };
+        match self.run(rt, &call, shares, gate, receipt) {
+            Ok(None) => {}
+            Ok(Some(cause)) => return Ok(Tried::Retry(cause)),
+            Err(stop) => return Err(stop),
         }
-        Ok(tried)
+        let registered = self.take_registered_for(history.number(), draft.receipt.acts.as_slice());
+        shares.show();
+        history.show();
+        let number = history.keep(alloc, checked, draft);
+        self.wait_queue.notify(rt, registered);
+        Ok(Tried::Kept(number))
     }
 
     /// Removes from the wait queue the seats that wait for what one of these acts changed, except the seat that
     /// committed them.
     fn take_registered_for(&self, seat: u16, acts: &[Deed]) -> Seats
-        ensures others { bit_at result.bits (seat % MOST_SEATS_OF_LARGE) ≡ 0 }
+        ensures others { bit_at result.bits (seat % MAX_SEATS_OF_LARGE) ≡ 0 }
     {
         let mut registered = Seats::none();
         for deed in acts {
-            registered = registered.and(
+            registered = registered.union(
                 self.wait_queue
                     .take_registered(deed.chan, changed_by(&deed.act)),
             );

@@ -2,12 +2,12 @@
 ghost use Rattle.std.specs.Prelude.{IfOk, IfErr, ◌↔◌, IsErrAnd};
 ghost use Rattle.txc_table.specs.Finished.{IsFinished};
 ghost use Rattle.txc_table.specs.Refused.{IsMissing, IsSeatMissing, Refused};
-ghost use Rattle.txc_table.specs.Seat.{AreOf, sittings_of};
+ghost use Rattle.txc_table.specs.Seat.{AreOf, commits_of};
 
 use super::Table;
+use crate::departed_seat::DepartedSeat;
 use crate::finish_fault::FinishFault;
 use crate::gathered::is_missing;
-use crate::left_seat::LeftSeat;
 use std::alloc::Global;
 use std::sync::Wait;
 use txc_txn::Report;
@@ -22,11 +22,11 @@ impl Table {
         self,
         rt: &R,
         alloc: Global,
-        left: Vec<LeftSeat>,
+        left: Vec<DepartedSeat>,
     ) -> Result<Report, FinishFault>
         requires of { AreOf self.lines left.items }
         ensures finished { IfOk result (IsFinished self left.items) }
-        ensures missing { IsErrAnd result IsSeatMissing ↔ IsMissing self.seats (sittings_of left.items) }
+        ensures missing { IsErrAnd result IsSeatMissing ↔ IsMissing self.seats (commits_of left.items) }
         ensures refused { IfErr result (λ fault. Refused self left.items fault) }
     {
         if is_missing(left.as_slice(), self.seats()) {
@@ -39,7 +39,7 @@ impl Table {
         match idle.finish(rt, alloc) {
             Ok(report) => Ok(report),
             Err(idle) => {
-                let (table, left) = idle.reopen();
+                let (table, left) = idle.unlock();
                 Err(FinishFault::NoMemory(table, left))
             }
         }

@@ -9,14 +9,14 @@ ghost use Rattle.txc_txn.specs.Transaction.{Aborted, transaction};
 ghost use Rattle.txc_table_lines.specs.Accounted.{AreAccounts};
 ghost use Rattle.txc_table.specs.Finished.{IsFinished};
 ghost use Rattle.txc_table.specs.IdleTableView.{MustRetry, OthersStay, WouldKeep};
-ghost use Rattle.txc_table.specs.Refused.{AreBack};
+ghost use Rattle.txc_table.specs.Refused.{AreAllSeats};
 ghost use Rattle.txc_table.specs.Table.{decls_of};
 ghost use Rattle.txc_table.specs.Outcome.{AreLawful, IsTransacted};
 
 use super::Table;
 use super::locked::LockedTable;
 use crate::closing::{buffers_for, report};
-use crate::left_seat::LeftSeat;
+use crate::departed_seat::DepartedSeat;
 use crate::seat::Seat;
 use crate::tried::Tried;
 use std::alloc::Global;
@@ -24,7 +24,7 @@ use std::marker::Model;
 use std::sync::Wait;
 use txc_base::{Cause, Stop};
 use txc_chan::{FullLog, Log};
-use txc_table_lines::LockRoom;
+use txc_table_lines::LockBuffer;
 use txc_table_seat::{AllReceipts, PaddedReceipt, Receipts};
 use txc_txn::{Checked, Receipt, Report};
 
@@ -33,7 +33,7 @@ use txc_txn::{Checked, Receipt, Report};
 #[derive(Drop)]
 pub struct IdleTable<K: Log = FullLog, S: Receipts = AllReceipts> {
     locked: LockedTable<K>,
-    left: Vec<LeftSeat<K, S>>,
+    left: Vec<DepartedSeat<K, S>>,
 }
 
 impl<K: Log, S: Receipts> Model for IdleTable<K, S> {
@@ -49,16 +49,16 @@ impl<K: Log, S: Receipts> Model for IdleTable<K, S> {
 
     ghost view = { λ idle. record {
       table = record {
-        lines = table_lines idle.locked.members (lines_of idle.locked.lines);
+        lines = table_lines idle.locked.table_seats (lines_of idle.locked.lines);
         made = idle.locked.shelves;
         kinds = idle.locked.kinds;
-        seats = idle.locked.members.seats;
+        seats = idle.locked.table_seats.seats;
       };
       left = idle.left.items;
       helds = helds_of idle.locked.lines;
     } };
 
-    ghost invariant = { λ idle. IsIdle K.shelves (table_lines idle.locked.members (lines_of idle.locked.lines))
+    ghost invariant = { λ idle. IsIdle K.shelves (table_lines idle.locked.table_seats (lines_of idle.locked.lines))
         idle.locked.shelves idle.locked.kinds (helds_of idle.locked.lines) idle.left.items };
 }
 
@@ -69,14 +69,14 @@ impl<K: Log> Table<K> {
         self,
         rt: &R,
         alloc: Global,
-        left: Vec<LeftSeat<K, S>>,
-    ) -> Result<IdleTable<K, S>, (Table<K>, Vec<LeftSeat<K, S>>)>
-        requires { AreBack self.lines self.seats left.items }
+        left: Vec<DepartedSeat<K, S>>,
+    ) -> Result<IdleTable<K, S>, (Table<K>, Vec<DepartedSeat<K, S>>)>
+        requires { AreAllSeats self.lines self.seats left.items }
         ensures table { IfOk result (λ idle. idle.table ≡ self) }
         ensures left { IfOk result (λ idle. idle.left ≡ left.items) }
         ensures again { IfErr result (λ again. (again.0 ≡ self) × (again.1.items ≡ left.items)) }
     {
-        match self.lines.lock_room(alloc) {
+        match self.lines.lock_buffer(alloc) {
             Ok(room) => Ok(self.into_idle_in(rt, room, left)),
             Err(_) => Err((self, left)),
         }
@@ -86,10 +86,10 @@ impl<K: Log> Table<K> {
     fn into_idle_in<S: Receipts, R: Wait>(
         self,
         rt: &R,
-        room: LockRoom<K>,
-        left: Vec<LeftSeat<K, S>>,
+        room: LockBuffer<K>,
+        left: Vec<DepartedSeat<K, S>>,
     ) -> IdleTable<K, S>
-        requires back { AreBack self.lines self.seats left.items }
+        requires back { AreAllSeats self.lines self.seats left.items }
         requires room { length self.lines.all ≤ room }
         ensures table { result.table ≡ self }
         ensures left { result.left ≡ left.items }
@@ -103,18 +103,18 @@ impl<K: Log> Table<K> {
 
 impl<K: Log, S: Receipts> IdleTable<K, S> {
     /// Unlocks the channels, and returns the table and its seats.
-    pub fn reopen(self) -> (Table<K>, Vec<LeftSeat<K, S>>)
+    pub fn unlock(self) -> (Table<K>, Vec<DepartedSeat<K, S>>)
         ensures same { (result.0 ≡ self.table) × (result.1.items ≡ self.left) }
-        ensures back { AreBack self.table.lines self.table.seats self.left }
+        ensures back { AreAllSeats self.table.lines self.table.seats self.left }
     {
-        let (table, left, _room) = self.reopen_with_room();
+        let (table, left, _room) = self.unlock_with_buffer();
         (table, left)
     }
 
-    /// Unlocks the channels, like `reopen`, and returns also the room for their locks.
-    fn reopen_with_room(self) -> (Table<K>, Vec<LeftSeat<K, S>>, LockRoom<K>)
+    /// Unlocks the channels, like `unlock`, and returns also the room for their locks.
+    fn unlock_with_buffer(self) -> (Table<K>, Vec<DepartedSeat<K, S>>, LockBuffer<K>)
         ensures same { (result.0 ≡ self.table) × (result.1.items ≡ self.left) }
-        ensures back { AreBack self.table.lines self.table.seats self.left }
+        ensures back { AreAllSeats self.table.lines self.table.seats self.left }
         ensures room { length self.table.lines.all ≤ result.2 }
     {
         let IdleTable { locked, left } = self;
@@ -125,7 +125,7 @@ impl<K: Log, S: Receipts> IdleTable<K, S> {
     /// Returns the number of transactions that the seat at this index committed.
     pub fn count(&self, at: usize) -> usize
         requires { at < length self.now.left }
-        ensures { (seat : _) → result ≡ length (slice_index_or self.now.left at seat).sitting.receipts }
+        ensures { (seat : _) → result ≡ length (slice_index_or self.now.left at seat).commits.receipts }
     {
         self.left[at].history.count()
     }
@@ -143,14 +143,14 @@ impl<K: Log, S: Receipts> IdleTable<K, S> {
         requires there { at < length self.old.left }
         requires fits { Fits (slice_get self.old.table.kinds) checked.now.steps }
         ensures again { (seat : _) → IfOk result (λ found. IfSome found
-            (MustRetry self.old.helds (slice_index_or self.old.left at seat).sitting checked.now)) }
+            (MustRetry self.old.helds (slice_index_or self.old.left at seat).commits checked.now)) }
         ensures lawful { (seat : _) → IfOk result (λ found. IfSome found (λ cause. AreLawful
-            (decls_of self.old.table.lines) (slice_index_or self.old.left at seat).sitting.receipts
+            (decls_of self.old.table.lines) (slice_index_or self.old.left at seat).commits.receipts
             (chan_in self.old.helds))) }
         ensures kept { (seat : _) → IfOk result (λ found. IfNone found
-            (WouldKeep self.old.helds (slice_index_or self.old.left at seat).sitting checked.now)) }
+            (WouldKeep self.old.helds (slice_index_or self.old.left at seat).commits checked.now)) }
         ensures stopped { (seat : _) → IfErr result (λ stop. stop ≢ Stop.NoMemory
-            → transaction (chan_in self.old.helds) (next_tag (slice_index_or self.old.left at seat).sitting)
+            → transaction (chan_in self.old.helds) (next_tag (slice_index_or self.old.left at seat).commits)
             checked.now.declared checked.now.steps ≡ Aborted stop) }
         ensures table { self.new.table ≡ self.old.table }
         ensures left { self.new.left ≡ self.old.left }
@@ -177,33 +177,37 @@ impl<K: Log, S: Receipts> IdleTable<K, S> {
         requires there { at < length self.left }
         requires fits { Fits (slice_get self.table.kinds) checked.now.steps }
         ensures tried { (seat : _) → IsTransacted (λ tried. tried) (decls_of self.table.lines) checked.now
-            (slice_index_or self.left at seat).sitting result.1 (slice_index_or result.0.left at seat).sitting }
+            (slice_index_or self.left at seat).commits result.1 (slice_index_or result.0.left at seat).commits }
         ensures others { OthersStay at self.left result.0.left }
         ensures table { result.0.table ≡ self.table }
     {
         let Ok(draft) = Box::new(alloc, PaddedReceipt::blank(alloc)) else {
             return (self, Err(Stop::NoMemory));
         };
-        let (table, mut left, room) = self.reopen_with_room();
-        let LeftSeat {
+        let (table, mut left, room) = self.unlock_with_buffer();
+        let DepartedSeat {
             history,
             shares,
-            member,
+            table_share,
         } = left.remove(at);
         let mut seat = Seat {
             history,
             shares,
-            member,
+            table_share,
             draft,
         };
         let tried = table.attempt(rt, alloc, &mut seat, checked);
-        put_back(&mut left, at, seat.into_left());
+        insert_seat(&mut left, at, seat.into_departed());
         (table.into_idle_in(rt, room, left), tried)
     }
 }
 
 /// Inserts a seat into a list that has room for it.
-fn put_back<K: Log, S: Receipts>(left: &mut Vec<LeftSeat<K, S>>, at: usize, seat: LeftSeat<K, S>)
+fn insert_seat<K: Log, S: Receipts>(
+    left: &mut Vec<DepartedSeat<K, S>>,
+    at: usize,
+    seat: DepartedSeat<K, S>,
+)
     requires there { at ≤ vec_len left.old }
     requires room { vec_len left.old < vec_capacity left.old }
     ensures { left.new.items ≡ insert left.old.items at seat }
@@ -224,16 +228,16 @@ impl IdleTable {
         ensures again { IfErr result (λ idle. idle ≡ self) }
     {
         let IdleTable { mut locked, left } = self;
-        let Some(buffers) = buffers_for(&mut locked.lines, alloc, &locked.members) else {
+        let Some(buffers) = buffers_for(&mut locked.lines, alloc, &locked.table_seats) else {
             return Err(IdleTable { locked, left });
         };
         let LockedTable {
             lines,
             shelves: _,
             kinds: _,
-            members,
+            table_seats,
             wait_queue: _,
         } = locked;
-        Ok(report(rt, lines, &members, left, buffers))
+        Ok(report(rt, lines, &table_seats, left, buffers))
     }
 }

@@ -2,7 +2,7 @@
 ghost use Rattle.std.specs.Prelude.{◌≡◌};
 
 use super::Table;
-use crate::left_seat::LeftSeat;
+use crate::departed_seat::DepartedSeat;
 use crate::seat::Seat;
 use std::sync::Wait;
 use txc_chan::Log;
@@ -11,12 +11,12 @@ use txc_table_seat::Receipts;
 impl<K: Log> Table<K> {
     /// Takes a seat of the table that is done, with its receipts, so that the table can be finished. If each other seat
     /// waits with no deadline or has left, the waiting seats stall. Blocks only for the wait queue's lock.
-    pub fn leave<S: Receipts, R: Wait>(&self, rt: &R, seat: Seat<K, S>) -> LeftSeat<K, S>
+    pub fn leave<S: Receipts, R: Wait>(&self, rt: &R, seat: Seat<K, S>) -> DepartedSeat<K, S>
         requires { seat.lines ≡ self.now.lines }
-        ensures sitting { result.sitting ≡ seat.sitting }
+        ensures commits { result.commits ≡ seat.commits }
         ensures lines { result.lines ≡ seat.lines }
     {
         self.wait_queue.leave(rt, seat.number());
-        seat.into_left()
+        seat.into_departed()
     }
 }

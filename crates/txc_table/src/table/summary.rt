@@ -1,14 +1,14 @@
 // The end of a table, without its logs.
 ghost use Rattle.std.specs.Prelude.{◌≡◌, IfOk, IfErr, ◌↔◌, IsErrAnd};
 ghost use Rattle.txc_table.specs.Finished.{IsFinishedInSummary};
-ghost use Rattle.txc_table.specs.Refused.{AreBack, IsMissing, IsSeatMissing, Refused};
-ghost use Rattle.txc_table.specs.Seat.{AreOf, sittings_of};
+ghost use Rattle.txc_table.specs.Refused.{AreAllSeats, IsMissing, IsSeatMissing, Refused};
+ghost use Rattle.txc_table.specs.Seat.{AreOf, commits_of};
 
 use super::Table;
 use crate::closing::report_in_summary;
+use crate::departed_seat::DepartedSeat;
 use crate::finish_fault::FinishFault;
 use crate::gathered::is_missing;
-use crate::left_seat::LeftSeat;
 use std::alloc::Global;
 use std::sync::Wait;
 use txc_base::List;
@@ -25,11 +25,11 @@ impl<K: Log> Table<K> {
         self,
         rt: &R,
         alloc: Global,
-        left: Vec<LeftSeat<K, S>>,
+        left: Vec<DepartedSeat<K, S>>,
     ) -> Result<List<Summary>, FinishFault<K, S>>
         requires of { AreOf self.lines left.items }
         ensures finished { IfOk result (λ summaries. IsFinishedInSummary self left.items summaries) }
-        ensures missing { IsErrAnd result IsSeatMissing ↔ IsMissing self.seats (sittings_of left.items) }
+        ensures missing { IsErrAnd result IsSeatMissing ↔ IsMissing self.seats (commits_of left.items) }
         ensures refused { IfErr result (λ fault. Refused self left.items fault) }
     {
         if is_missing(left.as_slice(), self.seats()) {
@@ -47,18 +47,18 @@ impl<K: Log> Table<K> {
         self,
         rt: &R,
         alloc: Global,
-        left: Vec<LeftSeat<K, S>>,
-    ) -> Result<List<Summary>, (Table<K>, Vec<LeftSeat<K, S>>)>
-        requires { AreBack self.lines self.seats left.items }
+        left: Vec<DepartedSeat<K, S>>,
+    ) -> Result<List<Summary>, (Table<K>, Vec<DepartedSeat<K, S>>)>
+        requires { AreAllSeats self.lines self.seats left.items }
         ensures finished { IfOk result (λ summaries. IsFinishedInSummary self left.items summaries) }
         ensures again { IfErr result (λ again. (again.0 ≡ self) × (again.1.items ≡ left.items)) }
     {
-        let room = match self.lines.lock_room(alloc) {
+        let room = match self.lines.lock_buffer(alloc) {
             Ok(room) => room,
             Err(_) => return Err((self, left)),
         };
         let mut locked = self.lock(rt, room);
-        match report_in_summary(&mut locked.lines, alloc, &locked.members, left) {
+        match report_in_summary(&mut locked.lines, alloc, &locked.table_seats, left) {
             Ok(summaries) => {
                 drop(locked);
                 Ok(List::from_vec(summaries))

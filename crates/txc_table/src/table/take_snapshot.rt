@@ -28,10 +28,10 @@ impl<K: Log> Table<K> {
         requires of { seat.old.lines ≡ self.now.lines }
         requires there { chan < length self.now.kinds }
         ensures ok { IfOk result (IsSnapshotOf T.snapshot_of (decl_at (decls_of self.now.lines) chan)
-            (count chan seat.old.sitting.receipts) (seen_at seat.new chan)) }
+            (count chan seat.old.commits.receipts) (seen_at seat.new chan)) }
         ensures grew { SeesMore (seen_at seat.old) (seen_at seat.new) }
         ensures err { IfErr result (λ stop. stop ≡ Stop.NoMemory) }
-        ensures same { seat.new.sitting ≡ seat.old.sitting }
+        ensures same { seat.new.commits ≡ seat.old.commits }
         ensures lines { seat.new.lines ≡ seat.old.lines }
         ensures unchanged { OnErr result (seat.new ≡ seat.old) }
     {
@@ -52,10 +52,10 @@ impl<K: Log> Table<K> {
         requires of { seat.old.lines ≡ self.now.lines }
         requires there { chan < length self.now.kinds }
         ensures ok { IfOk result (IsSnapshotOf summary_of (decl_at (decls_of self.now.lines) chan)
-            (count chan seat.old.sitting.receipts) (seen_at seat.new chan)) }
+            (count chan seat.old.commits.receipts) (seen_at seat.new chan)) }
         ensures grew { SeesMore (seen_at seat.old) (seen_at seat.new) }
         ensures err { IfErr result (λ stop. stop ≡ Stop.NoMemory) }
-        ensures same { seat.new.sitting ≡ seat.old.sitting }
+        ensures same { seat.new.commits ≡ seat.old.commits }
         ensures lines { seat.new.lines ≡ seat.old.lines }
         ensures unchanged { OnErr result (seat.new ≡ seat.old) }
     {
@@ -75,7 +75,7 @@ impl Table {
         ensures seen { IfOk result (λ account. seen_at seat.new chan ≡ account.log) }
         ensures grew { SeesMore (seen_at seat.old) (seen_at seat.new) }
         ensures err { IfErr result (λ stop. stop ≡ Stop.NoMemory) }
-        ensures same { seat.new.sitting ≡ seat.old.sitting }
+        ensures same { seat.new.commits ≡ seat.old.commits }
         ensures lines { seat.new.lines ≡ seat.old.lines }
         ensures unchanged { OnErr result (seat.new ≡ seat.old) }
     {

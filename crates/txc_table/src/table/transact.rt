@@ -12,7 +12,8 @@ ghost use Rattle.txc_txn.specs.Transaction.{Again, Aborted, transaction};
 ghost use Rattle.txc_table_interests.specs.Interests.{interests_of};
 
 use super::Table;
-use crate::deadline::{At, Deadline, Never};
+use crate::deadline::{Deadline, NoDeadline, UntilInstant};
+use crate::gate::NoGate;
 use crate::seat::Seat;
 use crate::tried::{Ended, Tried};
 use std::alloc::Global;
@@ -25,15 +26,17 @@ use txc_table_interests::{Interests, interests_of};
 use txc_table_seat::Receipts;
 use txc_txn::Checked;
 
-/// How many more tries a seat makes before it registers at the wait queue.
-const EARLY_TRIES: u32 = 2;
+/// How many tries a seat makes before it registers at the wait queue, because another thread may be about to change
+/// what
+/// it waits for.
+const EARLY_TRIES: u32 = 3;
 
-/// How many turns of a spin loop a seat makes before each of these tries, in about half a microsecond.
+/// How many turns of a spin loop a seat makes between these tries, in about half a microsecond.
 const SPINS: u32 = 60;
 
 /// What a seat waits for between two tries, and how long.
 #[derive(Drop)]
-struct Terms<'a, W> {
+struct WaitOptions<'a, W> {
     interests: &'a Interests,
     deadline: &'a W,
 }
@@ -64,9 +67,9 @@ impl<K: Log> Table<K> {
         ensures outcome { IsAttempted as_tried (decls_of self.now.lines) checked.now seat.old result seat.new }
         ensures lines { seat.new.lines ≡ seat.old.lines }
     {
-        match self.transact_for(rt, alloc, seat, checked, &Never { rt })? {
+        match self.transact_for(rt, alloc, seat, checked, &NoDeadline { rt })? {
             Tried::Kept(number) => Ok(Ended::Kept(number)),
-            // `Never` has no deadline, so this is a stall.
+            // `NoDeadline` has no deadline, so this is a stall.
             Tried::Retry(cause) => Ok(Ended::Stalled(cause)),
         }
     }
@@ -91,12 +94,13 @@ impl<K: Log> Table<K> {
         ensures lines { seat.new.lines ≡ seat.old.lines }
     {
         // A seat that waits until a deadline never stalls, so after `Retry` the time has passed.
-        self.transact_for(rt, alloc, seat, checked, &At { rt, until })
+        self.transact_for(rt, alloc, seat, checked, &UntilInstant { rt, until })
     }
 
     /// Tries a transaction until it commits, or until a wait ends without a notification. Then it returns `Retry` with
-    /// the cause of the last try. The deadline determines what that means: a stall for `Never`, and that the time has
-    /// passed for `At`.
+    /// the cause of the last try. The deadline determines what that means: a stall for `NoDeadline`, and that the time
+    /// has
+    /// passed for `UntilInstant`.
     fn transact_for<S: Receipts, R: Wait, W: Deadline>(
         &self,
         rt: &R,
@@ -110,41 +114,24 @@ impl<K: Log> Table<K> {
         ensures outcome { IsAttempted (λ tried. tried) (decls_of self.now.lines) checked.now seat.old result seat.new }
         ensures lines { seat.new.lines ≡ seat.old.lines }
     {
-        if let Tried::Kept(number) = self.try_some_times(rt, alloc, seat, checked)? {
-            return Ok(Tried::Kept(number));
+        for tries in 0..EARLY_TRIES {
+            if tries > 0 {
+                pause();
+            }
+            match self.attempt_with(rt, alloc, seat, checked, None::<&mut NoGate>)? {
+                Tried::Kept(number) => return Ok(Tried::Kept(number)),
+                Tried::Retry(_) => {}
+            }
         }
         let interests = interests_of(self.kinds.as_slice(), checked);
-        let terms = Terms {
+        let options = WaitOptions {
             interests: &interests,
             deadline,
         };
-        let tried = self.try_until_kept(rt, alloc, seat, checked, &terms);
+        let tried = self.try_until_kept(rt, alloc, seat, checked, &options);
         self.wait_queue
             .unregister(seat.number(), interests.as_slice());
         tried
-    }
-
-    /// Tries a transaction like `attempt`. If it must be retried, tries it a few more times, each time after a pause,
-    /// because another thread may be about to change what it waits for. Returns the result of the last try.
-    fn try_some_times<S: Receipts, R: Wait>(
-        &self,
-        rt: &R,
-        alloc: Global,
-        seat: &mut Seat<K, S>,
-        checked: &Checked,
-    ) -> Result<Tried, Stop>
-        requires of { seat.old.lines ≡ self.now.lines }
-        requires fits { Fits (slice_get self.now.kinds) checked.now.steps }
-        ensures outcome { IsAttempted (λ tried. tried) (decls_of self.now.lines) checked.now seat.old result seat.new }
-        ensures lines { seat.new.lines ≡ seat.old.lines }
-    {
-        for _ in 0..EARLY_TRIES {
-            match self.attempt(rt, alloc, seat, checked)? {
-                Tried::Kept(number) => return Ok(Tried::Kept(number)),
-                Tried::Retry(_) => pause(),
-            }
-        }
-        self.attempt(rt, alloc, seat, checked)
     }
 
     /// Makes the later tries of `transact_for` on these terms. The seat stays registered at the wait queue.
@@ -154,17 +141,17 @@ impl<K: Log> Table<K> {
         alloc: Global,
         seat: &mut Seat<K, S>,
         checked: &Checked,
-        terms: &Terms<'_, W>,
+        options: &WaitOptions<'_, W>,
     ) -> Result<Tried, Stop>
         requires of { seat.old.lines ≡ self.now.lines }
         requires fits { Fits (slice_get self.now.kinds) checked.now.steps }
-        requires interests { terms.now.interests.now.items
+        requires interests { options.now.interests.now.items
             ≡ interests_of (slice_get self.now.kinds) checked.now.declared checked.now.steps }
         ensures outcome { IsAttempted (λ tried. tried) (decls_of self.now.lines) checked.now seat.old result seat.new }
         ensures lines { seat.new.lines ≡ seat.old.lines }
     {
         for _ in rt.forever() {
-            match self.try_once(rt, alloc, seat, checked, terms) {
+            match self.try_once(rt, alloc, seat, checked, options) {
                 Ok(None) => {}
                 Ok(Some(tried)) => return Ok(tried),
                 Err(stop) => return Err(stop),
@@ -191,33 +178,33 @@ impl<K: Log> Table<K> {
         alloc: Global,
         seat: &mut Seat<K, S>,
         checked: &Checked,
-        terms: &Terms<'_, W>,
+        options: &WaitOptions<'_, W>,
     ) -> Result<Option<Tried>, Stop>
         requires of { seat.old.lines ≡ self.now.lines }
         requires fits { Fits (slice_get self.now.kinds) checked.now.steps }
-        requires interests { terms.now.interests.now.items
+        requires interests { options.now.interests.now.items
             ≡ interests_of (slice_get self.now.kinds) checked.now.declared checked.now.steps }
         ensures outcome { IfOk result (λ ended. IfSome ended (λ tried. (m : Map)
-            × AreFound (decls_of self.now.lines) seat.old.sitting.receipts (seen_at seat.old) m
-            × Tells m seat.old.sitting checked.now tried seat.new.sitting)) }
+            × AreFound (decls_of self.now.lines) seat.old.commits.receipts (seen_at seat.old) m
+            × Tells m seat.old.commits checked.now tried seat.new.commits)) }
         ensures lines { seat.new.lines ≡ seat.old.lines }
         ensures sees { IfOk result (λ ended. IfSome ended (λ tried. Sees seat.old tried seat.new)) }
         ensures again { IfOk result (λ ended. IfNone ended (seat.new ≡ seat.old)) }
         ensures retried { IfOk result (λ ended. IfNone ended ((m : Map)
-            × AreFound (decls_of self.now.lines) seat.old.sitting.receipts (seen_at seat.old) m
-            × ((cause : Cause) × (transaction m (next_tag seat.old.sitting) checked.now.declared checked.now.steps
+            × AreFound (decls_of self.now.lines) seat.old.commits.receipts (seen_at seat.old) m
+            × ((cause : Cause) × (transaction m (next_tag seat.old.commits) checked.now.declared checked.now.steps
             ≡ Again cause)))) }
         ensures stopped { IfErr result (λ stop. stop ≢ Stop.NoMemory
-            → ((m : Map) × AreFound (decls_of self.now.lines) seat.old.sitting.receipts (seen_at seat.old) m
-            × (transaction m (next_tag seat.old.sitting) checked.now.declared checked.now.steps ≡ Aborted stop))) }
+            → ((m : Map) × AreFound (decls_of self.now.lines) seat.old.commits.receipts (seen_at seat.old) m
+            × (transaction m (next_tag seat.old.commits) checked.now.declared checked.now.steps ≡ Aborted stop))) }
         ensures unchanged { OnErr result (seat.new ≡ seat.old) }
     {
         // Before the try: a commit that comes after it finds the seat.
-        self.register(rt, seat.number(), checked, terms.interests);
+        self.register(rt, seat.number(), checked, options.interests);
         match self.attempt(rt, alloc, seat, checked)? {
             Tried::Kept(number) => Ok(Some(Tried::Kept(number))),
             Tried::Retry(cause) => {
-                if terms.deadline.wait(&self.wait_queue, seat.number()) {
+                if options.deadline.wait(&self.wait_queue, seat.number()) {
                     Ok(None)
                 } else {
                     Ok(Some(Tried::Retry(cause)))

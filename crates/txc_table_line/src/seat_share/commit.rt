@@ -1,12 +1,12 @@
 // A write or a read that a seat commits at once.
 ghost use Rattle.std.specs.Prelude.{◌≡◌, ◌<◌, None, true, IfNone, IfOk, IfSome, OnErr};
-ghost use Rattle.txc_base.specs.Kinds.{suits};
+ghost use Rattle.txc_base.specs.Kinds.{supports};
 ghost use Rattle.txc_base.specs.Operation.{operate};
-ghost use Rattle.txc_chan.specs.Committed.{HasNoAct, IsCommittedOp, is_move};
+ghost use Rattle.txc_chan.specs.Committed.{HasNoAct, IsCommittedOp, is_read_or_write};
 ghost use Rattle.txc_table_line.specs.Commit.{CountsOne};
 
 use super::SeatShare;
-use crate::ledgered::Ledgered;
+use crate::line_chan::LineChan;
 use std::alloc::AllocError;
 use std::snapshot::Snapshot;
 use txc_base::{Act, Op, Tag};
@@ -20,17 +20,17 @@ impl<K: Log> SeatShare<K> {
     pub fn commit<R: Append>(
         &mut self,
         rt: &R,
-        channel: &mut Ledgered<K>,
+        channel: &mut LineChan<K>,
         tag: Tag,
         op: &Op,
     ) -> Result<Option<Act>, AllocError>
         requires of { self.old.line ≡ channel.old.line }
         requires clean { channel.old.held.logged.pending ≡ 0 }
         requires later { channel.old.held.logged.stamp < tag.stamp }
-        requires suits { suits channel.old.held.logged.decl.kind op.now ≡ true }
+        requires supports { supports channel.old.held.logged.decl.kind op.now ≡ true }
         ensures done { IfOk result (λ found. IfSome found (λ act.
             IsCommittedOp tag op.now act channel.old.held.logged channel.new.held.logged)) }
-        ensures none { is_move op.now ≡ true → IfOk result (λ found. IfNone found
+        ensures none { is_read_or_write op.now ≡ true → IfOk result (λ found. IfNone found
             (HasNoAct (operate channel.old.held.logged.channel tag.seat None op.now))) }
         ensures counts { IfOk result (λ found. IfSome found (λ act.
             CountsOne channel.old.held.logged channel.new.held.logged tag self.old self.new)) }
@@ -45,7 +45,7 @@ impl<K: Log> SeatShare<K> {
             return Ok(None);
         };
         channel.show();
-        channel.audit(&mut self.shares);
+        channel.show_bound(&mut self.shares);
         // Only for the proof: the log's length is a `usize`, so what the seat has made is at most `GREATEST_NUMBER`.
         let _few = channel.chan.log_len();
         self.known = Snapshot::of(channel);

@@ -1,10 +1,11 @@
 // Transactions that a session checks once and runs often.
 ghost use Rattle.std.specs.Prelude.{◌≡◌, ℕ, IfOk, IfErr, OnErr, slice_get};
-ghost use Rattle.yalwythen_work.specs.Asked.{IsAskedAgain, HasFailedWith, HasFailedAgainWith, IsPrepared};
-ghost use Rattle.yalwythen_work.specs.Asked.{IsPreparedAsked};
-ghost use Rattle.yalwythen_work.specs.Asked.{HasPreparedFailedWith, last_item, replies_in};
+ghost use Rattle.yalwythen_work.specs.Committed.{HasCommittedNumbered, HasFailedWith, HasFailedNumberedWith};
+ghost use Rattle.yalwythen_work.specs.Committed.{IsPrepared};
+ghost use Rattle.yalwythen_work.specs.Committed.{HasCommittedPrepared};
+ghost use Rattle.yalwythen_work.specs.Committed.{HasPreparedFailedWith, last_item, replies_in};
 
-use super::{Session, number_of};
+use super::{Session, receipt_number};
 use crate::answers::last_item;
 use crate::recording::Recording;
 use crate::transact_error::TransactError;
@@ -57,8 +58,8 @@ impl<K: Recording> Session<'_, K> {
     /// Runs the transaction with this number, among those that this session has prepared, like `transact_prepared`.
     /// Fails with `Unprepared` if there is none.
     fn transact_numbered<R: Wait>(&mut self, rt: &R, number: usize) -> Result<usize, TransactError>
-        ensures asked { IfOk result (λ receipt. IsAskedAgain self.old number receipt self.new) }
-        ensures failed { IfErr result (λ error. HasFailedAgainWith self.old number error) }
+        ensures committed { IfOk result (λ receipt. HasCommittedNumbered self.old number receipt self.new) }
+        ensures failed { IfErr result (λ error. HasFailedNumberedWith self.old number error) }
         ensures same { OnErr result (self.new ≡ self.old) }
     {
         self.plans.reserve_prepared()?;
@@ -67,7 +68,7 @@ impl<K: Recording> Session<'_, K> {
         };
         plan.show();
         let ended = self.table.transact(rt, self.alloc, &mut self.seat, plan)?;
-        let receipt = number_of(ended)?;
+        let receipt = receipt_number(ended)?;
         self.plans.note_prepared(number);
         Ok(receipt)
     }
@@ -83,7 +84,7 @@ impl<K: Recording> Session<'_, K> {
         rt: &R,
         prepared: Prepared,
     ) -> Result<usize, TransactError>
-        ensures asked { IfOk result (λ number. IsPreparedAsked self.old prepared number self.new) }
+        ensures committed { IfOk result (λ number. HasCommittedPrepared self.old prepared number self.new) }
         ensures failed { IfErr result (λ error. HasPreparedFailedWith self.old prepared error) }
         ensures same { OnErr result (self.new ≡ self.old) }
     {
@@ -100,7 +101,7 @@ impl<K: Recording> Session<'_, K> {
         rt: &R,
         prepared: Prepared,
     ) -> Result<Option<Item>, TransactError>
-        ensures asked { IfOk result (λ item. (number : ℕ) × IsPreparedAsked self.old prepared number self.new
+        ensures committed { IfOk result (λ item. (number : ℕ) × HasCommittedPrepared self.old prepared number self.new
             × (item ≡ last_item (replies_in (slice_get self.new.seat.receipts number)))) }
         ensures failed { IfErr result (λ error. HasPreparedFailedWith self.old prepared error) }
         ensures same { OnErr result (self.new ≡ self.old) }

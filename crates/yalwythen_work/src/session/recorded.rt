@@ -2,7 +2,7 @@
 ghost use Rattle.std.specs.Prelude.{◌≡◌, ◌≤◌, ◌<◌, IfOk, IfErr, IfSome, IfNone, OnOk, Some, length, slice_get};
 ghost use Rattle.txc_table_seat.specs.Seated.{count};
 ghost use Rattle.txc_table.specs.Table.{decls_of};
-ghost use Rattle.yalwythen_work.specs.Asked.{IsSnapshotError};
+ghost use Rattle.yalwythen_work.specs.Committed.{IsSnapshotError};
 ghost use Rattle.txc_table_line.specs.Account.{IsAccount};
 ghost use Rattle.txc_table_line.specs.Line.{decl_at};
 

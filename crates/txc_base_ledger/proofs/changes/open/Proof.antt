@@ -1,4 +1,4 @@
--- `open` makes the book's row and that of all parts.
+-- `open` makes the ledger's row and that of all parts.
 use Rattle.std.proofs.Common.{ℕ, List, [], ◌∷◌, ◌++◌, refl, w64}
 use mir.Val.{Val, vint, vstruct, vcons, vnil, of_list}
 use base.Logic.{SProp, emp}
@@ -18,9 +18,9 @@ use denote.Plain.{uint_vals, uint_Tells}
 use denote.Steps.{nothing}
 use denote.Triple.Walked.{Stays, stay_dropped, walk_of, Goes-dropped}
 use Rattle.std.proofs.raw_atomic.Walks.{proved}
-use Rattle.txc_base_ledger.specs.Tally.{book_owns, share_owns}
+use Rattle.txc_base_ledger.specs.Tally.{ledger_owns, share_owns}
 use Rattle.txc_base_ledger.proofs.Steps as steps
-use Rattle.txc_base_ledger.specs.contracts.book.Book as Book
+use Rattle.txc_base_ledger.specs.contracts.ledger.Ledger as Ledger
 use Rattle.txc_base_ledger.specs.contracts.share.Share as Share
 use Rattle.txc_base_ledger.proofs.Fields.{token, Token, token_made, ends}
 use Rattle.txc_base_ledger.specs.contracts.changes.open.{ended, clauses}
@@ -31,7 +31,7 @@ use Rattle.txc_base_ledger.proofs.changes.open.Code as code
 pub open_spec : {M : Type 1} → statement M
 open_spec 𝓤 𝓛 𝓜 𝓡 wired =
     let H = 𝓛.H in let 𝓣 = tables 𝓤 H 𝓜 𝓡 𝓡.env in let c = clauses 𝓛 𝓜.mem 𝓡.returns in
-    let A : RattleType = Book.the_row in let B : RattleType = Share.the_row in
+    let A : RattleType = Ledger.the_row in let B : RattleType = Share.the_row in
     let hs : Stays ended.signature.params ended.kept = (stay_dropped (plain (λ _. u64)) yes, tt) in
     proved 𝓛 ended hs c 𝓜 𝓡 (Goes-dropped 𝓛 0 (plain (λ _. u64)) yes (λ κs x f. refl), tt) #self code.function
     (code.unfolded 𝓤 H 𝓜 𝓡 wired)
@@ -46,9 +46,9 @@ open_spec 𝓤 𝓛 𝓜 𝓡 wired =
       (tt, record { fits = are.0.1 }),
       tt,
     ) $
-    use0 𝓛 (later (some (λ (γ : ℕ). ‵ (fsep (book_owns γ n 0) (share_owns γ n n 0))))) (steps.begins n 𝓛) $
+    use0 𝓛 (later (some (λ (γ : ℕ). ‵ (fsep (ledger_owns γ n 0) (share_owns γ n n 0))))) (steps.begins n 𝓛) $
     await ! tt $ pick ! (λ γ.
-    let book : A.Denot = record { marker = record {}; name = γ; whole = n; total = 0 } in
+    let ledger : A.Denot = record { marker = record {}; name = γ; whole = n; total = 0 } in
     let share : B.Denot = record { marker = record {}; name = γ; whole = n; parts = n; amount = 0 } in
     fsplit ! $
     sets ! (agg ! (no_more !)) refl (tt, tt) $ sets ! (agg ! (and_then ! (get ! refl) (no_more !))) refl (
@@ -68,7 +68,7 @@ open_spec 𝓤 𝓛 𝓜 𝓡 wired =
     use0 𝓛 (‵ (Token.own_val (record {}, tt) (token ∷ []))) (token_made 𝓛) $ fjoin ! $
     nothing ! $ move ! (2 ∷ 1 ∷ 0 ∷ []) $ fjoin3 ! $ feq_i ! (List Val) (v ∷ []) (v ∷ []) refl $ fjoin ! $
     fpack ! (Valss (A ∷ B ∷ [])) (λ vss. fsep (feq (List Val) (v ∷ []) (vstruct (of_list (vss.0 ++ (vss.1.0 ++ []))) ∷
-    [])) (owns (A ∷ B ∷ []) (book, (share, tt)) vss)) (token ∷ [], (token ∷ [], tt)) $
+    [])) (owns (A ∷ B ∷ []) (ledger, (share, tt)) vss)) (token ∷ [], (token ∷ [], tt)) $
     nothing ! $ nothing ! $ fjoin ! $ nothing ! $
-    by ! (ends 𝓛 ended hs c y v (book, share) (tt, tt) (tt, tt) (fact_i 𝓤 _ (emp 𝓤)
+    by ! (ends 𝓛 ended hs c y v (ledger, share) (tt, tt) (tt, tt) (fact_i 𝓤 _ (emp 𝓤)
     (record { of = (refl, refl); whole = refl; total = refl; parts = refl; amount = refl }))))))

@@ -15,5 +15,5 @@ returns-in-Ok-clause-err c =
     IfErr-weaker c.read_tree.result _ _ (λ e says given. script_in-tree _ _ (omega arith) read.0 read.1 ∙ says given)
     c.read_tree.ensures.err
 
-pub returns-then-bytes-gt-MOST_BYTES-clause-err : goal.returns-then-bytes-gt-MOST_BYTES-clause-err
-returns-then-bytes-gt-MOST_BYTES-clause-err c = λ given. script_in-large c.args.bytes.now c.if-bytes-gt-MOST_BYTES.true
+pub returns-then-bytes-gt-MAX_BYTES-clause-err : goal.returns-then-bytes-gt-MAX_BYTES-clause-err
+returns-then-bytes-gt-MAX_BYTES-clause-err c = λ given. script_in-large c.args.bytes.now c.if-bytes-gt-MAX_BYTES.true

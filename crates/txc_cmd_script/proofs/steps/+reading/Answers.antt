@@ -31,12 +31,12 @@ pub read_branches-returns-clause-ok : goal.read_branches-returns-clause-ok
 read_branches-returns-clause-ok t c = branches_all c.args.trees.now c.loop-tree.tree-index _ _ c.loop-tree-test.false
     c.loop-tree.invariant
 
-pub read_step-returns-in_err-verb-clause-err : goal.read_step-returns-in_err-verb-clause-err
-read_step-returns-in_err-verb-clause-err t c =
+pub read_step-returns-in_err-step_name-clause-err : goal.read_step-returns-in_err-step_name-clause-err
+read_step-returns-in_err-step_name-clause-err t c =
     let p = err_from_is_err_and c.from_residual.result c.from_residual.ensures.1 in
     rw (p.1, p.2) (λ given. step_in_tree-unnamed c.args.tree.now c.in-Array.elements c.as_slice.result.now
     c.name-item.result _ c.in-Array.is c.as_slice.ensures.value
-    c.in-len1-up.len_at_least c.name-item.is c.in_err-verb.ensures)
+    c.in-len1-up.len_at_least c.name-item.is c.in_err-step_name.ensures)
 
 pub read_step-returns-in_err-read_branches-in-Or-clause-err :
     goal.read_step-returns-in_err-read_branches-in-Or-clause-err
@@ -44,24 +44,25 @@ read_step-returns-in_err-read_branches-in-Or-clause-err t c =
     let p = err_from_is_err_and c.from_residual-in_err-read_branches-in-Or.result
     c.from_residual-in_err-read_branches-in-Or.ensures.1 in
     rw (p.1, p.2) (λ given. step_in_tree-or c.args.tree.now c.in-Array.elements c.as_slice.result.now c.name-item.result
-    c.in_ok-verb.verb c.in-Array.is c.as_slice.ensures.value
-    c.in-len1-up.len_at_least c.name-item.is c.in_ok-verb.ensures c.in-Or.is c.if-all_lists.ensures
+    c.in_ok-step_name.step_name c.in-Array.is c.as_slice.ensures.value
+    c.in-len1-up.len_at_least c.name-item.is c.in_ok-step_name.ensures c.in-Or.is c.if-all_lists.ensures
     ∙ ap (mapped Or) (c.in_err-read_branches-in-Or.ensures.err given))
 
 pub read_step-returns-in_ok-read_branches-in-Or-clause-ok :
     goal.read_step-returns-in_ok-read_branches-in-Or-clause-ok
 read_step-returns-in_ok-read_branches-in-Or-clause-ok t c =
     rw c.from_vec.ensures (step_in_tree-or c.args.tree.now c.in-Array.elements c.as_slice.result.now c.name-item.result
-    c.in_ok-verb.verb c.in-Array.is c.as_slice.ensures.value
-    c.in-len1-up.len_at_least c.name-item.is c.in_ok-verb.ensures c.in-Or.is c.if-all_lists.ensures
+    c.in_ok-step_name.step_name c.in-Array.is c.as_slice.ensures.value
+    c.in-len1-up.len_at_least c.name-item.is c.in_ok-step_name.ensures c.in-Or.is c.if-all_lists.ensures
     ∙ ap (mapped Or) c.in_ok-read_branches-in-Or.ensures.ok)
 
 pub read_step-returns-in_default-2 : goal.read_step-returns-in_default-2
 read_step-returns-in_default-2 t c =
     let is = step_in_tree-alone c.args.tree.now c.in-Array.elements c.as_slice.result.now c.name-item.result
-    c.in_ok-verb.verb c.in-Array.is c.as_slice.ensures.value
-    c.in-len1-up.len_at_least c.name-item.is c.in_ok-verb.ensures c.in_default-2.not-Or ∙ sym c.read_alone.ensures in
-    record { ok = ok_is _ c.read_alone.result is; err = err_is _ c.read_alone.result is }
+    c.in_ok-step_name.step_name c.in-Array.is c.as_slice.ensures.value
+    c.in-len1-up.len_at_least c.name-item.is c.in_ok-step_name.ensures c.in_default-2.not-Or
+    ∙ sym c.read_simple_step.ensures in
+    record { ok = ok_is _ c.read_simple_step.result is; err = err_is _ c.read_simple_step.result is }
 
 pub read_steps-loop-element-init : goal.read_steps-loop-element-init
 read_steps-loop-element-init t c = onto-nothing c.in_ok-steps.steps.items _ c.in_ok-steps.ensures.items

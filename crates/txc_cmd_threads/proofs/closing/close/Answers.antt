@@ -7,7 +7,7 @@ use Rattle.txc_table.specs.Table.{TableView, decls_of}
 use Rattle.txc_table_lines.specs.Accounted.{AreAccounts}
 use Rattle.txc_cmd_report.specs.declared.seat_end.SeatEnd.{SeatEnd}
 use Rattle.txc_cmd_report.specs.declared.seat_end.SeatEnd.TheVariants.{Stopped}
-use Rattle.txc_table.specs.Seat.{LeftSeatView}
+use Rattle.txc_table.specs.Seat.{DepartedSeatView}
 use Rattle.txc_cmd_threads.specs.Pool.{HaveRun, HaveServed}
 use Rattle.txc_cmd_threads.specs.Stuck.{AreStuck}
 use Rattle.txc_cmd_threads.proofs.closing.close.Goals as goal
@@ -47,6 +47,6 @@ pub retry_stalled-idle-requires-clause-served : goal.retry_stalled-idle-requires
 retry_stalled-idle-requires-clause-served g c =
     let seats : List (List CheckedView) = map (λ seat. seat.items) c.args.plans.now in
     subst (λ (t : TableView). HaveRun t seats c.in-Ok.idle.left c.args.results.ends.items) (sym c.in-Ok.ensures.table)
-    (subst (λ (ls : List LeftSeatView). HaveRun c.args.table seats ls c.args.results.ends.items)
+    (subst (λ (ls : List DepartedSeatView). HaveRun c.args.table seats ls c.args.results.ends.items)
     (sym c.in-Ok.ensures.left)
     (record { fits = c.requires.fits; back = c.requires.served }))

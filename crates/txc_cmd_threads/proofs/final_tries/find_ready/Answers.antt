@@ -5,8 +5,8 @@ use Rattle.txc_txn_check.specs.Limits.{CheckedView}
 use Rattle.txc_txn_check.specs.Steps.{Fits}
 use Rattle.txc_table.specs.Table.{TableView, decls_of}
 use Rattle.txc_cmd_report.specs.declared.seat_end.SeatEnd.TheVariants.{Finished, Stalled}
-use Rattle.txc_table_seat.specs.Seated.{untouched}
-use Rattle.txc_table.specs.Seat.{LeftSeatView}
+use Rattle.txc_table_seat.specs.Seated.{no_commits}
+use Rattle.txc_table.specs.Seat.{DepartedSeatView}
 use Rattle.txc_cmd_threads.specs.Serves.{Serves}
 use Rattle.txc_cmd_threads.specs.Stuck.{IsStuck}
 use Rattle.txc_cmd_threads.proofs.FinalTries.{back_set, items_at, stuck_more, stuck_next}
@@ -28,7 +28,7 @@ retry_cause-requires-clause-fits g c =
 pub loop-at-preserved : goal.loop-at-preserved
 loop-at-preserved g c =
     let seats : List (List CheckedView) = map (λ seat. seat.items) c.args.plans.now in
-    let left : List LeftSeatView = c.args.idle.now.left in
+    let left : List DepartedSeatView = c.args.idle.now.left in
     let own : c.as_slice.result.now ≡ slice_index_or seats c.loop-at.at [] =
     c.as_slice.ensures.value
     ∙ sym (get_or-map (λ seat. seat.items) c.args.plans.now c.loop-at.at c.index-plans-at.result [] c.loop-at-test.true
@@ -41,20 +41,20 @@ loop-at-preserved g c =
       back_set (decls_of c.args.idle.now.table.lines) seats left c.loop-at.ends.items c.loop-at.at
           (Stalled c.in-Some.cause) there
           (λ d. subst (λ (ps : List CheckedView). Serves (decls_of c.args.idle.now.table.lines) ps
-          (untouched c.loop-at.at)
-          (slice_index_or left c.loop-at.at d).sitting (Stalled c.in-Some.cause)) own
-          (subst (λ (ls : List LeftSeatView). Serves (decls_of c.args.idle.now.table.lines) c.as_slice.result.now
-          (untouched c.loop-at.at) (slice_index_or ls c.loop-at.at d).sitting
+          (no_commits c.loop-at.at)
+          (slice_index_or left c.loop-at.at d).commits (Stalled c.in-Some.cause)) own
+          (subst (λ (ls : List DepartedSeatView). Serves (decls_of c.args.idle.now.table.lines) c.as_slice.result.now
+          (no_commits c.loop-at.at) (slice_index_or ls c.loop-at.at d).commits
           (Stalled c.in-Some.cause)) c.loop-at.invariant.1
-          (subst (λ (t : TableView). Serves (decls_of t.lines) c.as_slice.result.now (untouched c.loop-at.at)
-          (slice_index_or c.loop-at.idle.left c.loop-at.at d).sitting (Stalled c.in-Some.cause)) c.loop-at.invariant.0
+          (subst (λ (t : TableView). Serves (decls_of t.lines) c.as_slice.result.now (no_commits c.loop-at.at)
+          (slice_index_or c.loop-at.idle.left c.loop-at.at d).commits (Stalled c.in-Some.cause)) c.loop-at.invariant.0
           (c.in-Some.ensures.serves d)))) c.loop-at.invariant.3,
       stuck_more c.loop-at.idle.helds c.retry_cause.new.idle.helds seats left c.loop-at.ends.items c.loop-at.at
           (Stalled c.in-Some.cause) there c.in-Some.ensures.same
           (λ d. subst (λ (ps : List CheckedView). IsStuck c.retry_cause.new.idle.helds ps
-          (slice_index_or left c.loop-at.at d).sitting (Stalled c.in-Some.cause)) own
-          (subst (λ (ls : List LeftSeatView). IsStuck c.retry_cause.new.idle.helds c.as_slice.result.now
-          (slice_index_or ls c.loop-at.at d).sitting (Stalled c.in-Some.cause)) c.loop-at.invariant.1
+          (slice_index_or left c.loop-at.at d).commits (Stalled c.in-Some.cause)) own
+          (subst (λ (ls : List DepartedSeatView). IsStuck c.retry_cause.new.idle.helds c.as_slice.result.now
+          (slice_index_or ls c.loop-at.at d).commits (Stalled c.in-Some.cause)) c.loop-at.invariant.1
           (c.in-Some.ensures.stuck d)))
           c.loop-at.invariant.4,
     )

@@ -6,7 +6,7 @@ use Rattle.txc_txn_check.specs.Steps.{Fits}
 use Rattle.txc_table.specs.Table.{TableView, decls_of}
 use Rattle.txc_table.specs.Outcome.{IsTransacted}
 use Rattle.txc_cmd_report.specs.declared.seat_end.SeatEnd.TheVariants.{Finished, Stalled, Stopped}
-use Rattle.txc_table_seat.specs.Seated.{Sitting, untouched}
+use Rattle.txc_table_seat.specs.Seated.{SeatCommits, no_commits}
 use Rattle.txc_cmd_threads.specs.Serves.{Serves}
 use Rattle.txc_cmd_threads.proofs.FinalTries.{others_then}
 use Rattle.txc_cmd_threads.proofs.Serving.{ends_here, goes_on, halted, retried, serves_then, was_kept}
@@ -24,8 +24,8 @@ attempt-after-requires g c =
 pub returns-in-Ok-Retry-clause-serves : goal.returns-in-Ok-Retry-clause-serves
 returns-in-Ok-Retry-clause-serves g c d =
     let lines = (decls_of c.args.idle.table.lines) in
-    let before : Sitting = (slice_index_or c.loop-next.idle.left c.args.at d).sitting in
-    let after : Sitting = (slice_index_or c.attempt-after.result.0.left c.args.at d).sitting in
+    let before : SeatCommits = (slice_index_or c.loop-next.idle.left c.args.at d).commits in
+    let after : SeatCommits = (slice_index_or c.attempt-after.result.0.left c.args.at d).commits in
     let tried : IsTransacted (λ t. t) lines c.index-plans-next.result before c.attempt-after.result.1 after =
     subst (λ (t : TableView). IsTransacted (λ t. t)
     (decls_of t.lines) c.index-plans-next.result before c.attempt-after.result.1
@@ -40,8 +40,8 @@ returns-in-Ok-Retry-clause-serves g c d =
 pub returns-in-Err-clause-serves : goal.returns-in-Err-clause-serves
 returns-in-Err-clause-serves g c d =
     let lines = (decls_of c.args.idle.table.lines) in
-    let before : Sitting = (slice_index_or c.loop-next.idle.left c.args.at d).sitting in
-    let after : Sitting = (slice_index_or c.attempt-after.result.0.left c.args.at d).sitting in
+    let before : SeatCommits = (slice_index_or c.loop-next.idle.left c.args.at d).commits in
+    let after : SeatCommits = (slice_index_or c.attempt-after.result.0.left c.args.at d).commits in
     let tried : IsTransacted (λ t. t) lines c.index-plans-next.result before c.attempt-after.result.1 after =
     subst (λ (t : TableView). IsTransacted (λ t. t)
     (decls_of t.lines) c.index-plans-next.result before c.attempt-after.result.1
@@ -58,8 +58,8 @@ loop-next-preserved g c = (
   others_then c.args.at _ _ _ c.loop-next.invariant.1 c.attempt-after.ensures.others,
   λ d last end rest.
       let lines = (decls_of c.args.idle.table.lines) in
-      let before : Sitting = (slice_index_or c.loop-next.idle.left c.args.at d).sitting in
-      let after : Sitting = (slice_index_or c.attempt-after.result.0.left c.args.at d).sitting in
+      let before : SeatCommits = (slice_index_or c.loop-next.idle.left c.args.at d).commits in
+      let after : SeatCommits = (slice_index_or c.attempt-after.result.0.left c.args.at d).commits in
       let tried : IsTransacted (λ t. t) lines c.index-plans-next.result before c.attempt-after.result.1 after =
       subst (λ (t : TableView). IsTransacted (λ t. t)
       (decls_of t.lines) c.index-plans-next.result before c.attempt-after.result.1
@@ -74,7 +74,7 @@ loop-next-preserved g c = (
 
 pub returns-clause-serves : goal.returns-clause-serves
 returns-clause-serves g c d =
-    let seat : Sitting = (slice_index_or c.loop-next.idle.left c.args.at d).sitting in
+    let seat : SeatCommits = (slice_index_or c.loop-next.idle.left c.args.at d).commits in
     let past : length c.args.plans.now ≤ c.loop-next.next = omega (arith, c.loop-next-test.false) in
     c.loop-next.invariant.2 d seat Finished
     (subst (λ (ps : List CheckedView). Serves (decls_of c.args.idle.table.lines) ps seat seat Finished)
@@ -84,7 +84,7 @@ pub loop-next-init : goal.loop-next-init
 loop-next-init g c = (
   refl,
   record { many = refl; same = λ k d other. refl },
-  λ d after end rest. serves_then (decls_of c.args.idle.table.lines) c.args.plans.now (untouched c.args.at)
-      (slice_index_or c.args.idle.left c.args.at d).sitting after c.requires.stalled.0 end (c.requires.stalled.1 d)
+  λ d after end rest. serves_then (decls_of c.args.idle.table.lines) c.args.plans.now (no_commits c.args.at)
+      (slice_index_or c.args.idle.left c.args.at d).commits after c.requires.stalled.0 end (c.requires.stalled.1 d)
       c.count-first.result (sym (c.count-first.ensures d) ∙ sym (zero-add c.count-first.result)) rest,
 )

@@ -6,8 +6,8 @@ use Rattle.txc_txn_check.specs.Steps.{Fits}
 use Rattle.txc_table.specs.Table.{TableView, decls_of}
 use Rattle.txc_cmd_report.specs.declared.seat_end.SeatEnd.{SeatEnd}
 use Rattle.txc_cmd_report.specs.declared.seat_end.SeatEnd.TheVariants.{Finished, Stalled}
-use Rattle.txc_table_seat.specs.Seated.{untouched}
-use Rattle.txc_table.specs.Seat.{LeftSeatView}
+use Rattle.txc_table_seat.specs.Seated.{no_commits}
+use Rattle.txc_table.specs.Seat.{DepartedSeatView}
 use Rattle.txc_cmd_threads.specs.Pool.{HaveRun, HaveServed}
 use Rattle.txc_cmd_threads.specs.Serves.{Serves}
 use Rattle.txc_cmd_threads.specs.Stuck.{IsStuck}
@@ -22,8 +22,8 @@ find_ready-requires-clause-served g c =
 
 pub returns-in_default-clause-stuck : goal.returns-in_default-clause-stuck
 returns-in_default-clause-stuck g c n d below =
-    subst (λ (ls : List LeftSeatView). IsStuck c.find_ready.new.idle.helds
-    (slice_index_or (map (λ seat. seat.items) c.args.plans.now) n []) (slice_index_or ls n d).sitting
+    subst (λ (ls : List DepartedSeatView). IsStuck c.find_ready.new.idle.helds
+    (slice_index_or (map (λ seat. seat.items) c.args.plans.now) n []) (slice_index_or ls n d).commits
     (slice_index_or c.find_ready.new.ends.items n Finished)) (sym c.find_ready.ensures.same.1)
     (c.in_default.ensures.stuck refl n d below)
 
@@ -54,15 +54,15 @@ resume-after-requires-clause-stalled g c =
     let end : SeatEnd = slice_index_or c.find_ready.new.ends.items at Finished in
     let why = stalled_for end c.in-Some-find_ready.ensures.ready.1 in (
       why.0,
-      λ d. subst (λ (ps : List CheckedView). Serves (decls_of c.find_ready.new.idle.table.lines) ps (untouched at)
-          (slice_index_or c.find_ready.new.idle.left at d).sitting (Stalled why.0)) (sym own)
-          (subst (Serves (decls_of c.find_ready.new.idle.table.lines) (slice_index_or seats at []) (untouched at)
-          (slice_index_or c.find_ready.new.idle.left at d).sitting) why.1
-          (subst (λ (ls : List LeftSeatView). Serves (decls_of c.find_ready.new.idle.table.lines)
+      λ d. subst (λ (ps : List CheckedView). Serves (decls_of c.find_ready.new.idle.table.lines) ps (no_commits at)
+          (slice_index_or c.find_ready.new.idle.left at d).commits (Stalled why.0)) (sym own)
+          (subst (Serves (decls_of c.find_ready.new.idle.table.lines) (slice_index_or seats at []) (no_commits at)
+          (slice_index_or c.find_ready.new.idle.left at d).commits) why.1
+          (subst (λ (ls : List DepartedSeatView). Serves (decls_of c.find_ready.new.idle.table.lines)
           (slice_index_or seats at [])
-          (untouched at) (slice_index_or ls at d).sitting end) (sym c.find_ready.ensures.same.1)
+          (no_commits at) (slice_index_or ls at d).commits end) (sym c.find_ready.ensures.same.1)
           (subst (λ (t : TableView). Serves (decls_of t.lines) (slice_index_or seats at [])
-          (untouched at) (slice_index_or c.loop.idle.left at d).sitting end) (sym c.find_ready.ensures.same.0)
+          (no_commits at) (slice_index_or c.loop.idle.left at d).commits end) (sym c.find_ready.ensures.same.0)
           (c.find_ready.ensures.back at d below)))),
     )
 
@@ -81,7 +81,7 @@ loop-preserved g c =
     c.find_ready.ensures.same.0 ∙ c.loop.invariant.2 in
     let back : HaveServed
     (decls_of c.args.worked.idle.table.lines) seats c.find_ready.new.idle.left c.find_ready.new.ends.items =
-    subst (λ (ls : List LeftSeatView). HaveServed
+    subst (λ (ls : List DepartedSeatView). HaveServed
     (decls_of c.args.worked.idle.table.lines) seats ls c.find_ready.new.ends.items)
     (sym c.find_ready.ensures.same.1)
     (subst (λ (t : TableView). HaveServed
@@ -91,14 +91,14 @@ loop-preserved g c =
       tt,
       c.resume-after.ensures.table ∙ table,
       c.resume-after.ensures.others.many
-          ∙ (ap (λ (ls : List LeftSeatView). length ls) c.find_ready.ensures.same.1 ∙ c.loop.invariant.3),
+          ∙ (ap (λ (ls : List DepartedSeatView). length ls) c.find_ready.ensures.same.1 ∙ c.loop.invariant.3),
       c.find_ready.ensures.ended,
       back_others (decls_of c.args.worked.idle.table.lines) seats c.find_ready.new.idle.left
           c.resume-after.result.0.left c.find_ready.new.ends.items at c.resume-after.result.1 there
           c.resume-after.ensures.others
-          (λ d. subst (λ (ps : List CheckedView). Serves (decls_of c.args.worked.idle.table.lines) ps (untouched at)
-          (slice_index_or c.resume-after.result.0.left at d).sitting c.resume-after.result.1) own
-          (subst (λ (t : TableView). Serves (decls_of t.lines) c.as_slice.result.now (untouched at)
-          (slice_index_or c.resume-after.result.0.left at d).sitting c.resume-after.result.1) table
+          (λ d. subst (λ (ps : List CheckedView). Serves (decls_of c.args.worked.idle.table.lines) ps (no_commits at)
+          (slice_index_or c.resume-after.result.0.left at d).commits c.resume-after.result.1) own
+          (subst (λ (t : TableView). Serves (decls_of t.lines) c.as_slice.result.now (no_commits at)
+          (slice_index_or c.resume-after.result.0.left at d).commits c.resume-after.result.1) table
           (c.resume-after.ensures.serves d))) back,
     )

@@ -8,10 +8,10 @@ use Rattle.std.proofs.lemmas.List.Elements.{All-get_or}
 use Rattle.std.proofs.lemmas.Result.{IfOk-weaker}
 use Rattle.txc_txn_check.specs.Limits.{CheckedView}
 use Rattle.txc_txn_check.specs.Steps.{Fits}
-use Rattle.txc_table_seat.specs.Seated.{Sitting, untouched}
+use Rattle.txc_table_seat.specs.Seated.{SeatCommits, no_commits}
 use Rattle.txc_cmd_report.specs.declared.seat_end.SeatEnd.{SeatEnd}
 use Rattle.txc_cmd_report.specs.declared.seat_end.SeatEnd.TheVariants.{Finished}
-use Rattle.txc_table.specs.Seat.{LeftSeatView}
+use Rattle.txc_table.specs.Seat.{DepartedSeatView}
 use Rattle.txc_table.specs.Table.{TableView}
 use Rattle.txc_base_threads.proofs.Added.{some_of}
 use Rattle.txc_cmd_threads.specs.Pool.{HasServed}
@@ -72,17 +72,17 @@ returns-clause-back g c =
           let is = c.make_jobs.ensures.each k j s (subst (λ n. k < n) (sym lent) below) in
           let it = sorted.each k o d Finished in_served in
           let did = all.each k j o in_jobs (slice_index_or c.args.seats.items k s) is.2 in
-          let fresh : (slice_index_or c.args.seats.items k s).sitting ≡ untouched k = c.requires.fresh k s in_seats in
-          subst (λ (e : SeatEnd). HasServed c.args.pool.table.now (slice_index_or plans k []) (untouched k)
+          let fresh : (slice_index_or c.args.seats.items k s).commits ≡ no_commits k = c.requires.fresh k s in_seats in
+          subst (λ (e : SeatEnd). HasServed c.args.pool.table.now (slice_index_or plans k []) (no_commits k)
           (slice_index_or results.left.items k d) e) (sym it.1)
-          (subst (λ (l : LeftSeatView). HasServed c.args.pool.table.now (slice_index_or plans k []) (untouched k) l
+          (subst (λ (l : DepartedSeatView). HasServed c.args.pool.table.now (slice_index_or plans k []) (no_commits k) l
           (slice_index_or served k o).end) (sym it.0)
-          (subst (λ (b : Sitting). HasServed c.args.pool.table.now (slice_index_or plans k []) b
+          (subst (λ (b : SeatCommits). HasServed c.args.pool.table.now (slice_index_or plans k []) b
           (slice_index_or served k o).left (slice_index_or served k o).end) fresh
           (subst (λ (ps : List CheckedView). HasServed c.args.pool.table.now ps
-          (slice_index_or c.args.seats.items k s).sitting (slice_index_or served k o).left
+          (slice_index_or c.args.seats.items k s).commits (slice_index_or served k o).left
           (slice_index_or served k o).end) is.1
           (subst (λ (t : TableView). HasServed t (slice_index_or jobs.items k j).plans.now
-          (slice_index_or c.args.seats.items k s).sitting (slice_index_or served k o).left
+          (slice_index_or c.args.seats.items k s).commits (slice_index_or served k o).left
           (slice_index_or served k o).end) is.0 did))));
     }) c.run_jobs.ensures.back

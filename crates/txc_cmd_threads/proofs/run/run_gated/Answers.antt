@@ -26,7 +26,7 @@ work_all-requires-clause-of g c κs within = λ k s below.
 
 pub work_all-requires-clause-fresh : goal.work_all-requires-clause-fresh
 work_all-requires-clause-fresh g c κs within = λ k s below.
-    ap (λ (seat : SeatView). seat.sitting)
+    ap (λ (seat : SeatView). seat.commits)
     (made_at _ _ _ _ c.in-Ok.ensures.ok k s (subst (λ n. k < n) c.in-Ok.made.1.ok.0 below))
 
 pub close-requires : goal.close-requires

@@ -10,8 +10,8 @@ use Rattle.txc_cmd_threads.proofs.worker.serve.Goals as goal
 pub returns-in-Ok-Stalled : goal.returns-in-Ok-Stalled
 returns-in-Ok-Stalled g c =
     let decls = decls_of c.args.table.now.lines in
-    let before = c.loop-plan.seat.sitting in
-    let after = c.transact.new.seat.sitting in
+    let before = c.loop-plan.seat.commits in
+    let after = c.transact.new.seat.commits in
     let tried : IsTransacted as_tried decls c.plan-item.result before c.transact.result after =
     as_transacted as_tried decls c.plan-item.result c.loop-plan.seat c.transact.result c.transact.new.seat
     c.transact.ensures.outcome in
@@ -27,8 +27,8 @@ returns-in-Ok-Stalled g c =
 pub returns-in-Err : goal.returns-in-Err
 returns-in-Err g c =
     let decls = decls_of c.args.table.now.lines in
-    let before = c.loop-plan.seat.sitting in
-    let after = c.transact.new.seat.sitting in
+    let before = c.loop-plan.seat.commits in
+    let after = c.transact.new.seat.commits in
     let tried : IsTransacted as_tried decls c.plan-item.result before c.transact.result after =
     as_transacted as_tried decls c.plan-item.result c.loop-plan.seat c.transact.result c.transact.new.seat
     c.transact.ensures.outcome in
@@ -46,8 +46,8 @@ loop-plan-preserved g c = (
   c.transact.ensures.lines ∙ c.loop-plan.invariant.0,
   λ last end rest.
       let decls = decls_of c.args.table.now.lines in
-      let before = c.loop-plan.seat.sitting in
-      let after = c.transact.new.seat.sitting in
+      let before = c.loop-plan.seat.commits in
+      let after = c.transact.new.seat.commits in
       let tried : IsTransacted as_tried decls c.plan-item.result before c.transact.result after =
       as_transacted as_tried decls c.plan-item.result c.loop-plan.seat c.transact.result c.transact.new.seat
       c.transact.ensures.outcome in

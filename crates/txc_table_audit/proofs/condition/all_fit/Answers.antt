@@ -2,7 +2,7 @@ use Rattle.std.proofs.Common.{refl, false, slice_get, List, [], All, arith}
 use Rattle.std.proofs.lemmas.List.{get_or_default}
 use Rattle.txc_txn_check.specs.Limits.{CheckedView}
 use Rattle.txc_txn_check.specs.Steps.{Fits}
-use Rattle.txc_table_audit.specs.Turns.{at_seat}
+use Rattle.txc_table_audit.specs.ReceiptKeys.{at_seat}
 use Rattle.txc_table_audit.proofs.Testing.{accepted, all_done, all_more, not_all, refused}
 use Rattle.txc_table_audit.proofs.condition.all_fit.Goals as goal
 

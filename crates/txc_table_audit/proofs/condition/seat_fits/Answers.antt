@@ -2,7 +2,7 @@ use Rattle.std.proofs.Common.{◌∙◌, refl, false, sym, slice_get, arith}
 use Rattle.std.proofs.lemmas.List.{get_or_default}
 use Rattle.txc_txn_check.specs.Limits.{CheckedView}
 use Rattle.txc_txn_check.specs.Steps.{Fits}
-use Rattle.txc_table_audit.specs.Turns.{at_seat, no_plan}
+use Rattle.txc_table_audit.specs.ReceiptKeys.{at_seat, no_plan}
 use Rattle.txc_table_audit.proofs.Testing.{accepted, all_done, all_more, not_all, refused, unfit}
 use Rattle.txc_table_audit.proofs.condition.seat_fits.Goals as goal
 

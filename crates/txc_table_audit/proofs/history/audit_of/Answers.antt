@@ -7,7 +7,7 @@ use Rattle.txc_txn.specs.Plain.{chan_in}
 use Rattle.txc_table_audit.specs.declared.condition.Condition.TheVariants.{FewChannels, ChannelsCanBeMade}
 use Rattle.txc_table_audit.specs.declared.condition.Condition.TheVariants.{AccountForEach}
 use Rattle.txc_table_audit.specs.declared.condition.Condition.TheVariants.{FewSeats, ReceiptsForEach, TransactionsFit}
-use Rattle.txc_table_audit.specs.Turns.{event_at}
+use Rattle.txc_table_audit.specs.ReceiptKeys.{event_at}
 use Rattle.txc_table_audit.proofs.Ending.{accepted, permuted, refused, sorted_order}
 use Rattle.txc_table_audit.proofs.Opening.{opening_is}
 use Rattle.txc_table_audit.proofs.Serial.{never_refused, own_order}
@@ -19,8 +19,8 @@ pub find_out_of_order-requires : goal.find_out_of_order-requires
 find_out_of_order-requires g c =
     omega (arith, c.requires FewSeats, (c.requires ReceiptsForEach).each, ap length c.as_slice-receipts.ensures)
 
-pub sort_turns-requires : goal.sort_turns-requires
-sort_turns-requires g c = omega (
+pub sort_keys-requires : goal.sort_keys-requires
+sort_keys-requires g c = omega (
   arith,
   c.requires FewSeats,
   (c.requires ReceiptsForEach).each,
@@ -54,20 +54,20 @@ compare-requires-clause-fits g c =
 pub compare-requires-clause-begun : goal.compare-requires-clause-begun
 compare-requires-clause-begun g c = c.requires ReceiptsForEach
 
-pub compare-requires-clause-places : goal.compare-requires-clause-places
-compare-requires-clause-places g c =
+pub compare-requires-clause-keys : goal.compare-requires-clause-keys
+compare-requires-clause-keys g c =
     all_places c.args.report.now.receipts c.as_slice.result.now
-    (permuted c.args.report.now.receipts c.as_slice-receipts.result.now c.in_ok-turns.turns.items c.as_slice.result.now
+    (permuted c.args.report.now.receipts c.as_slice-receipts.result.now c.in_ok-keys.keys.items c.as_slice.result.now
     c.as_slice-receipts.ensures c.as_slice.ensures.value
-    c.in_ok-turns.ensures.same)
+    c.in_ok-keys.ensures.same)
 
 pub returns-in_err-compare-clause-err : goal.returns-in_err-compare-clause-err
 returns-in_err-compare-clause-err g c =
     let p = err_from_is_err_and c.from_residual-in_err-compare.result c.from_residual-in_err-compare.ensures.1 in
     let sorted = sorted_order (g.T.Transactions.plans c.args.transactions.now) c.args.report.now
-    c.as_slice-receipts.result.now c.in_ok-turns.turns.items c.as_slice.result.now
+    c.as_slice-receipts.result.now c.in_ok-keys.keys.items c.as_slice.result.now
     c.as_slice-receipts.ensures c.as_slice.ensures.value (c.requires ReceiptsForEach) c.in_default.ensures
-    c.in_ok-turns.ensures.same c.in_ok-turns.ensures.sorted in
+    c.in_ok-keys.ensures.same c.in_ok-keys.ensures.sorted in
     rw (p.1, p.2) (refused c.args.decls.now (g.T.Transactions.plans c.args.transactions.now) c.args.report.now
     (chan_in c.in_ok-rerun.rerun.held)
     (map (event_at (g.T.Transactions.plans c.args.transactions.now) c.args.report.now.receipts) c.as_slice.result.now) _
@@ -77,16 +77,16 @@ returns-in_err-compare-clause-err g c =
 pub returns-clause-ok : goal.returns-clause-ok
 returns-clause-ok g c =
     let sorted = sorted_order (g.T.Transactions.plans c.args.transactions.now) c.args.report.now
-    c.as_slice-receipts.result.now c.in_ok-turns.turns.items c.as_slice.result.now
+    c.as_slice-receipts.result.now c.in_ok-keys.keys.items c.as_slice.result.now
     c.as_slice-receipts.ensures c.as_slice.ensures.value (c.requires ReceiptsForEach) c.in_default.ensures
-    c.in_ok-turns.ensures.same c.in_ok-turns.ensures.sorted in
+    c.in_ok-keys.ensures.same c.in_ok-keys.ensures.sorted in
     accepted c.args.decls.now (g.T.Transactions.plans c.args.transactions.now) c.args.report.now
     (chan_in c.in_ok-rerun.rerun.held) c.as_slice.result.now
     c.in_ok-list_ranks.field-0.items (opening_is c.in_ok-rerun.rerun.held c.args.decls.now c.in_ok-rerun.ensures.held)
     sorted
-    (permuted c.args.report.now.receipts c.as_slice-receipts.result.now c.in_ok-turns.turns.items c.as_slice.result.now
+    (permuted c.args.report.now.receipts c.as_slice-receipts.result.now c.in_ok-keys.keys.items c.as_slice.result.now
     c.as_slice-receipts.ensures c.as_slice.ensures.value
-    c.in_ok-turns.ensures.same)
+    c.in_ok-keys.ensures.same)
     c.in_ok-compare.ensures.ok
     (c.in_ok-list_ranks.ensures ∙ ap (map rank) (c.as_slice-2.ensures.value ∙ sym c.as_slice.ensures.value))
 

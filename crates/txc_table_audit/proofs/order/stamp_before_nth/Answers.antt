@@ -1,6 +1,6 @@
 use Rattle.std.proofs.Common.{◌≡◌, ◌∙◌, sym, ap, suc, ◌-◌, arith, slice_index_or}
 use Rattle.std.proofs.lemmas.Option.{slice_get-get_or}
-use Rattle.txc_table_audit.specs.Turns.{stamp_before}
+use Rattle.txc_table_audit.specs.ReceiptKeys.{stamp_before}
 use Rattle.txc_table_audit.proofs.InTurn.{stamp_of_last}
 use Rattle.txc_table_audit.proofs.order.stamp_before_nth.Goals as goal
 

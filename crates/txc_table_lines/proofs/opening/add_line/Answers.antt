@@ -3,7 +3,7 @@ use Rattle.std.proofs.Common.{map}
 use Rattle.std.proofs.Common.{slice_index_or, slice_set, arith}
 use Rattle.txc_chan.specs.ChanView.{ChanView}
 use Rattle.txc_chan.specs.Logged.{opened}
-use Rattle.txc_table_line.specs.Ledgered.{LedgeredView}
+use Rattle.txc_table_line.specs.LineChan.{LineChanView}
 use Rattle.txc_table_line.specs.Line.{LineId}
 use Rattle.txc_table_line.specs.SeatShare.{SeatShareView}
 use Rattle.txc_table_lines.specs.Lines.{fresh_share}
@@ -14,7 +14,7 @@ use Rattle.txc_table_lines.proofs.opening.add_line.Goals as goal
 pub loop-at-init : goal.loop-at-init
 loop-at-init g c = record {
   channel = refl;
-  books = c.new-channel.ensures.books;
+  ledgers = c.new-channel.ensures.ledgers;
   parts = omega (arith, c.new-channel.ensures.parts);
   none = c.new-channel.ensures.none;
   seats = sym (mapped_none _ c.args.seats.now.items);
@@ -34,16 +34,16 @@ loop-at-preserved g c =
     ∙ ap opened (sym c.new-channel.ensures.decl) in
     let share : c.new.result ≡ fresh_share channel.line
     = fresh_share_is c.new.result channel new c.new-channel.ensures.unmarked
-    (c.new.ensures.line ∙ ap (λ (x : LedgeredView). x.line) inv.channel) c.new.ensures.none
-    (c.new.ensures.seen ∙ ap (λ (x : LedgeredView). x.held.logged.log) inv.channel)
-    (c.new.ensures.marks ∙ ap (λ (x : LedgeredView). x.marks) inv.channel)
-    (c.new.ensures.known ∙ ap (λ (x : LedgeredView). x.held.logged) inv.channel) in
+    (c.new.ensures.line ∙ ap (λ (x : LineChanView). x.line) inv.channel) c.new.ensures.none
+    (c.new.ensures.seen ∙ ap (λ (x : LineChanView). x.held.logged.log) inv.channel)
+    (c.new.ensures.marks ∙ ap (λ (x : LineChanView). x.marks) inv.channel)
+    (c.new.ensures.known ∙ ap (λ (x : LineChanView). x.held.logged) inv.channel) in
     let long = ap length inv.seats ∙ mapped_long _ c.args.seats.now.items c.loop-at.at in
     let below : c.loop-at.at < length c.args.seats.now.items = search rules in
     let next : suc c.loop-at.at ≡ c.loop-at.at + 1 = omega arith in
     record {
       channel = c.new.ensures.same ∙ inv.channel;
-      books = c.cut.ensures.same ∙ inv.books;
+      ledgers = c.cut.ensures.same ∙ inv.ledgers;
       parts = omega (arith, c.cut.ensures.left.0, inv.parts);
       none = (c.cut.ensures.left.1, c.cut.ensures.left.2);
       seats = ap (λ (all : List (List SeatShareView)). slice_set all c.loop-at.at c.add.new.self) inv.seats
@@ -65,4 +65,4 @@ returns-clause-seats g c =
     c.loop-at.at all
     ∙ ap (λ (line : LineId). map
     (λ (shares : List SeatShareView). shares ++ fresh_share line ∷ []) c.args.seats.now.items)
-    (sym (same ∙ ap (λ (x : LedgeredView). x.line) inv.channel))) c.into_lock.ensures
+    (sym (same ∙ ap (λ (x : LineChanView). x.line) inv.channel))) c.into_lock.ensures

@@ -6,7 +6,7 @@ use Rattle.txc_table_lines.proofs.opening.add_line.Given as goal
 abbrev pub invariant-loop-at : goal.invariant-loop-at
 invariant-loop-at g l = record {
   channel : l.channel ≡ l.initial.channel;
-  books : l.shares.books ≡ l.initial.channel.line.books;
+  ledgers : l.shares.ledgers ≡ l.initial.channel.line.ledgers;
   parts : l.shares.parts + l.at ≡ l.count;
   none : (l.shares.amount ≡ 0) × (l.shares.made ≡ 0);
   seats : l.seats.items ≡ mapped (λ shares. shares ++ fresh_share l.initial.channel.line ∷ []) l.at

@@ -8,8 +8,9 @@ pub loop-chan-preserved : goal.loop-chan-preserved
 loop-chan-preserved g c = record {
   lines = decl_more (λ lock. lock.label.value.line) (λ held. held.logged.decl) _ _ c.in_ok-add_line.field-0 _
       c.in-Some.chan c.loop-chan.invariant.lines c.in_ok-push-2.ensures.items c.in_ok-add_line.ensures.decl;
-  books = line_more (λ lock. lock.label.value.line) (λ (line : LineId). line.books.seats ≡ c.args.count) _ _
-      c.in_ok-add_line.field-0 c.loop-chan.invariant.books c.in_ok-push-2.ensures.items c.in_ok-add_line.ensures.books;
+  ledgers = line_more (λ lock. lock.label.value.line) (λ (line : LineId). line.ledgers.seats ≡ c.args.count) _ _
+      c.in_ok-add_line.field-0 c.loop-chan.invariant.ledgers c.in_ok-push-2.ensures.items
+      c.in_ok-add_line.ensures.ledgers;
   seats = one_more (λ lock. lock.label.value.line) _ _ c.in_ok-add_line.field-0 c.args.count _ _
       c.loop-chan.invariant.seats c.in_ok-push-2.ensures.items c.in_ok-add_line.ensures.seats;
 }

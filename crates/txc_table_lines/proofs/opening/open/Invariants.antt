@@ -9,6 +9,6 @@ abbrev pub invariant-loop-chan : goal.invariant-loop-chan
 invariant-loop-chan g l = record {
   lines : map (λ line. line.decl) (map (λ lock. lock.label.value.line) l.locks.items)
       ≡ map (λ held. held.logged.decl) l.yielded;
-  books : All (λ line. line.books.seats ≡ l.count) (map (λ lock. lock.label.value.line) l.locks.items);
+  ledgers : All (λ line. line.ledgers.seats ≡ l.count) (map (λ lock. lock.label.value.line) l.locks.items);
   seats : l.seats.items ≡ replicate l.count (map fresh_share (map (λ lock. lock.label.value.line) l.locks.items));
 }

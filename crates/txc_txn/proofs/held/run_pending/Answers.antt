@@ -13,8 +13,8 @@ returns-in-Ok-Done-clause-ended g c = record {
   unchanged = tt;
 }
 
-pub returns-in-Ok-Again-clause-ended : goal.returns-in-Ok-Again-clause-ended
-returns-in-Ok-Again-clause-ended g c =
+pub returns-in-Ok-Retry-clause-ended : goal.returns-in-Ok-Retry-clause-ended
+returns-in-Ok-Retry-clause-ended g c =
     let back = c.undo_all.ensures.back c.in_ok-run.run'.tag (g.H.Hold.chans c.mark_all.new.hold)
     (record {
       made = rw c.mark_all.ensures.same (c.as_slice.ensures.value ∙ c.mark_all.ensures.marks);
@@ -29,10 +29,10 @@ returns-in-Ok-Again-clause-ended g c =
       unchanged = tt;
     }
 
-pub returns-in-Ok-Again-clause-ran : goal.returns-in-Ok-Again-clause-ran
-returns-in-Ok-Again-clause-ran g c =
+pub returns-in-Ok-Retry-clause-ran : goal.returns-in-Ok-Retry-clause-ran
+returns-in-Ok-Retry-clause-ran g c =
     let again : transaction (g.H.Hold.chans c.args.hold.now) c.args.tag c.args.checked.now.declared
-    c.args.checked.now.steps ≡ Again c.in-Ok-Again.cause = search rules in
+    c.args.checked.now.steps ≡ Again c.in-Ok-Retry.cause = search rules in
     rw again (
       refl,
       c.undo_all.ensures.back c.in_ok-run.run'.tag (g.H.Hold.chans c.mark_all.new.hold)
@@ -52,11 +52,11 @@ returns-in-Err-clause-ended g c =
     λ ne.
     subst (λ steps. transaction (g.H.Hold.chans c.args.hold.now) c.args.tag c.args.checked.now.declared steps
     ≡ Aborted c.in-Err.stop) c.steps-2.ensures
-    (from_start (g.H.Hold.chans c.args.hold.now) c.args.tag c.in_ok-run.run'.tag _ _ _ c.over-path.result
+    (from_start (g.H.Hold.chans c.args.hold.now) c.args.tag c.in_ok-run.run'.tag _ _ _ c.reusing-trace.result
     (Aborted c.in-Err.stop) c.declared.ensures c.in_ok-run.ensures.can_rise
-    c.in_ok-run.ensures.tag c.over-path.ensures.last c.over-path.ensures.replies c.over-path.ensures.deeds
+    c.in_ok-run.ensures.tag c.reusing-trace.ensures.last c.reusing-trace.ensures.replies c.reusing-trace.ensures.deeds
     (subst (λ hold. steps_in c.in_ok-run.run'.tag c.steps-2.result.now
-    (state_of (g.H.Hold.chans hold) c.over-path.result) ≡ Aborted c.in-Err.stop)
+    (state_of (g.H.Hold.chans hold) c.reusing-trace.result) ≡ Aborted c.in-Err.stop)
     (c.mark_all.ensures.same ∙ c.begin.ensures.same) (c.in-Err.ensures.runs.err ne))) in
     let back = c.undo_all-in-Err.ensures.back c.in_ok-run.run'.tag (g.H.Hold.chans c.mark_all.new.hold)
     (record {

@@ -30,8 +30,8 @@ use Rattle.yalwythen_domain.proofs.any.Domain.TheLaws.{the_row_laws as LR}
 use Rattle.yalwythen_c.specs.contracts.border.yalwythen_core_end as f
 use Rattle.yalwythen_c.proofs.border.yalwythen_core_end.Statement.{statement}
 use Rattle.yalwythen_c.proofs.border.yalwythen_core_end.Code as code
-use Rattle.yalwythen_domain.specs.contracts.discard as g
-use Rattle.yalwythen_domain.proofs.discard.Met.{met}
+use Rattle.yalwythen_domain.specs.contracts.drop_domain as g
+use Rattle.yalwythen_domain.proofs.drop_domain.Met.{met}
 
 abbrev stayed : Stays f.ended.signature.params f.ended.kept
 stayed = (stay_dropped _ yes, tt)
@@ -58,7 +58,7 @@ yalwythen_core_end_spec 𝓤 𝓛 𝓜 𝓡 wired =
     let z : G.Ghost = ((κs, qs, bounds, (x, tt), (v ∷ [], tt)), tt) in
     nothing ! $ move ! (1 ∷ 0 ∷ []) $ join ! $ nothing ! $ join ! $ nothing ! $ move ! (1 ∷ 0 ∷ []) $
     use2 𝓛 (raw (G.pre z)) (id⊢ 𝓤 _) $
-    calls_at ! (framed 𝓤 𝓛.H 𝓜 𝓣) G (met 𝓤 𝓛 𝓜 𝓡 (code.calls-yalwythen_domain::discard 𝓡.env wired)) z
+    calls_at ! (framed 𝓤 𝓛.H 𝓜 𝓣) G (met 𝓤 𝓛 𝓜 𝓡 (code.calls-yalwythen_domain::drop_domain 𝓡.env wired)) z
     (and_then ! (get ! refl) (no_more !)) (λ u.
     use1 𝓛 (later (some (λ (r : Unit {0}). (‵ ftrue ⊛ ‵ (unit.own_val r (u ∷ []))) ⊛
     some (λ (ws : Lasts g.ended κs z.0.3). ‵ (lasts g.ended κs z.0.3 ws) ⊛ ‵ ftrue)))) (id⊢ 𝓤 _) $

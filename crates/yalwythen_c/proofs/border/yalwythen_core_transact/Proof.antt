@@ -34,7 +34,7 @@ use denote.Triple.Clauses.{Lasts, lasts}
 use denote.Triple.Spec.{triple_of}
 use denote.Triple.Table.{framed}
 use denote.Triple.Walked.{Stays, walk_of, stay_dropped, gave_slice, Goes-dropped, Goes-gave_slice, ends_at}
-use Rattle.yalwythen_domain.specs.contracts.orders.Order.{the_row as OR}
+use Rattle.yalwythen_domain.specs.contracts.raw_steps.RawStep.{the_row as OR}
 use Rattle.yalwythen_domain.specs.contracts.any.Domain.{the_row as R}
 use Rattle.yalwythen_domain.specs.contracts.call_result.CallResult.{the_row as TR}
 use Rattle.yalwythen_domain.specs.declared.any.Domain.{Domain as Domains}

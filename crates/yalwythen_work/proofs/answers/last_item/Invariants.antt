@@ -1,5 +1,5 @@
 use Rattle.std.proofs.Common.{◌≡◌, take}
-use Rattle.yalwythen_work.specs.Asked.{last_item}
+use Rattle.yalwythen_work.specs.Committed.{last_item}
 use Rattle.yalwythen_work.proofs.answers.last_item.Given as goal
 
 abbrev pub invariant-loop-reply : goal.invariant-loop-reply

@@ -1,5 +1,5 @@
 use Rattle.std.proofs.Common.{◌≡◌, ◌∙◌, ap, subst, sym}
-use Rattle.txc_table_seat.specs.Seated.{Sitting}
+use Rattle.txc_table_seat.specs.Seated.{SeatCommits}
 use Rattle.yalwythen_work.specs.SeatWithPlans.{IsAfterSession, SeatWithPlansView}
 use Rattle.yalwythen_work.proofs.job.serve.Goals as goal
 
@@ -11,11 +11,11 @@ returns-clause-left g c =
     (sym c.seat.view_is)
     (subst (λ (p : SeatWithPlansView). IsAfterSession p c.into_inner.result) c.in-Ok.ensures c.into_inner.ensures) in
     record {
-      number = ap (λ (s : Sitting). s.number) c.leave-2.ensures.sitting ∙ back.number;
+      number = ap (λ (s : SeatCommits). s.number) c.leave-2.ensures.commits ∙ back.number;
       lines = c.leave-2.ensures.lines ∙ back.lines;
       noted = λ is.
-          back.noted (back.notes ∙ c.new-plans.ensures.notes ∙ is)
-          ∙ ap (λ (s : Sitting). s.plans) (sym c.leave-2.ensures.sitting);
+          back.noted (back.audited ∙ c.new-plans.ensures.audited ∙ is)
+          ∙ ap (λ (s : SeatCommits). s.plans) (sym c.leave-2.ensures.commits);
     }
 
 pub new-session-requires-clause-its : goal.new-session-requires-clause-its
@@ -23,8 +23,8 @@ new-session-requires-clause-its g c =
     let same : c.claim.result ≡ record { seat = c.args.seat; plans = c.new-plans.result } =
     c.claim.ensures ∙ c.in-Ok.ensures in
     record {
-      number = sym (ap (λ (p : SeatWithPlansView). p.seat.sitting.number) same);
+      number = sym (ap (λ (p : SeatWithPlansView). p.seat.commits.number) same);
       lines = sym (ap (λ (p : SeatWithPlansView). p.seat.lines) same);
-      notes = sym (ap (λ (p : SeatWithPlansView). p.plans.notes) same);
-      noted = λ is. c.new-plans.ensures.kept ∙ sym (ap (λ (s : Sitting). s.plans) c.requires.fresh);
+      audited = sym (ap (λ (p : SeatWithPlansView). p.plans.audited) same);
+      noted = λ is. c.new-plans.ensures.kept ∙ sym (ap (λ (s : SeatCommits). s.plans) c.requires.fresh);
     }

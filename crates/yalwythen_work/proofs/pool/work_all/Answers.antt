@@ -9,8 +9,8 @@ use Rattle.yalwythen_work.proofs.Sends.{job_sends}
 use Rattle.yalwythen_work.specs.Plans.{PlansView}
 use Rattle.yalwythen_work.specs.Ran.{IsOfAll}
 use Rattle.yalwythen_work.specs.declared.setup.Setup.{Setup}
-use Rattle.txc_table_seat.specs.Seated.{Sitting, untouched}
-use Rattle.txc_table.specs.Seat.{LeftSeatView}
+use Rattle.txc_table_seat.specs.Seated.{SeatCommits, no_commits}
+use Rattle.txc_table.specs.Seat.{DepartedSeatView}
 use Rattle.yalwythen_work.proofs.pool.work_all.Goals as goal
 
 pub perform_all-requires-send-J : goal.perform_all-requires-send-J
@@ -38,7 +38,7 @@ perform_all-requires-clause-can g c κs within = λ k j below.
       slice_index_or c.args.workers.items k w,
       is.0,
       is.1,
-      fresh ∙ ap untouched (sym (ap (λ (x : Sitting). x.number) fresh)),
+      fresh ∙ ap no_commits (sym (ap (λ (x : SeatCommits). x.number) fresh)),
     )
 
 pub returns-clause-len : goal.returns-clause-len
@@ -66,8 +66,8 @@ returns-clause-numbered g c = IfOk-weaker c.unzip_results.result _ _ (λ results
     let does = all.each k j d sent (slice_index_or c.args.seats.items k s) (slice_index_or c.args.workers.items k w)
     is.0 is.1 in
     let at = sorted k d l w (slice_index_or served.items k d).plans (subst (λ n. k < n) (sym served.ok.0) came) in
-    ap (λ (x : LeftSeatView). x.sitting.number) at.0 ∙ does.0.number
-    ∙ ap (λ (x : Sitting). x.number) (c.requires.fresh k s seat)) c.unzip_results.ensures.each
+    ap (λ (x : DepartedSeatView). x.commits.number) at.0 ∙ does.0.number
+    ∙ ap (λ (x : SeatCommits). x.number) (c.requires.fresh k s seat)) c.unzip_results.ensures.each
 
 pub returns-clause-of : goal.returns-clause-of
 returns-clause-of g c = IfOk-weaker c.unzip_results.result _ _ (λ results sorted k l below.
@@ -86,10 +86,10 @@ returns-clause-of g c = IfOk-weaker c.unzip_results.result _ _ (λ results sorte
     let does = all.each k j d sent (slice_index_or c.args.seats.items k s) (slice_index_or c.args.workers.items k w)
     is.0 is.1 in
     let at = sorted k d l w (slice_index_or served.items k d).plans (subst (λ n. k < n) (sym served.ok.0) came) in
-    ap (λ (x : LeftSeatView). x.lines) at.0 ∙ does.0.lines ∙ c.requires.of k s seat) c.unzip_results.ensures.each
+    ap (λ (x : DepartedSeatView). x.lines) at.0 ∙ does.0.lines ∙ c.requires.of k s seat) c.unzip_results.ensures.each
 
 pub returns-clause-noted : goal.returns-clause-noted
-returns-clause-noted g c = IfOk-weaker c.unzip_results.result _ _ (λ results sorted notes k l p below.
+returns-clause-noted g c = IfOk-weaker c.unzip_results.result _ _ (λ results sorted audited k l p below.
     let jobs = c.make_jobs.new.jobs in
     let served = c.in_ok-served.served in
     let all = c.in_ok-served.ensures.came in
@@ -105,8 +105,8 @@ returns-clause-noted g c = IfOk-weaker c.unzip_results.result _ _ (λ results so
     let does = all.each k j d sent (slice_index_or c.args.seats.items k s) (slice_index_or c.args.workers.items k w)
     is.0 is.1 in
     let at = sorted k d l w p (subst (λ n. k < n) (sym served.ok.0) came) in
-    ap (λ (b : PlansView). b.kept) at.2 ∙ does.0.noted (subst (λ (x : Setup). IsTrue x.notes) (sym is.2) notes)
-    ∙ ap (λ (x : LeftSeatView). x.sitting.plans) (sym at.0)) c.unzip_results.ensures.each
+    ap (λ (b : PlansView). b.kept) at.2 ∙ does.0.noted (subst (λ (x : Setup). IsTrue x.audited) (sym is.2) audited)
+    ∙ ap (λ (x : DepartedSeatView). x.commits.plans) (sym at.0)) c.unzip_results.ensures.each
 
 pub returns-clause-came : goal.returns-clause-came
 returns-clause-came g c = IfOk-weaker c.unzip_results.result _ _ (λ results sorted k b a below.
@@ -125,5 +125,5 @@ returns-clause-came g c = IfOk-weaker c.unzip_results.result _ _ (λ results sor
     is.0 is.1 in
     let at = sorted k d (slice_index_or served.items k d).left a (slice_index_or served.items k d).plans
     (subst (λ n. k < n) (sym served.ok.0) came) in
-    subst (λ x. g.Q.Role.Came (slice_index_or c.args.workers.items k b) x) (sym at.1) does.1)
+    subst (λ x. g.Q.Role.Postcondition (slice_index_or c.args.workers.items k b) x) (sym at.1) does.1)
     c.unzip_results.ensures.each

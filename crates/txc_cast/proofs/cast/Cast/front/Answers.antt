@@ -34,5 +34,5 @@ returns-in-None c =
     ∙ stands_at (reader_standing (items_shown inside.tokens.items)) inside.cursors.items c.deref.result.now
     c.args.reader c.in-Some.cursor.now c.deref.ensures.value found.0 found.1)
     (sym c.in-None.ensures)
-    (c.item.ensures ∙ ap (λ (b : Broadcast). slice_get b.items c.place.result) (sym c.self.view_is)
-    ∙ ap (slice_get (items_shown inside.tokens.items)) c.place.ensures)
+    (c.item.ensures ∙ ap (λ (b : Broadcast). slice_get b.items c.position.result) (sym c.self.view_is)
+    ∙ ap (slice_get (items_shown inside.tokens.items)) c.position.ensures)

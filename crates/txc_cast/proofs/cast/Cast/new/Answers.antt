@@ -1,6 +1,6 @@
 use Rattle.std.proofs.Common.{◌∙◌, ◌≤◌, arith}
 use Rattle.std.specs.Arc.{arc_value}
-use Rattle.txc_base.specs.declared.limits.TheConstants.{MOST_READERS}
+use Rattle.txc_base.specs.declared.limits.TheConstants.{MAX_READERS}
 use Rattle.txc_cast.proofs.Refused.{no_memory, same_fault, opens, opens_more, empty, opened}
 use Rattle.txc_cast.proofs.cast.Cast.new.Goals as goal
 
@@ -22,7 +22,7 @@ loop-init c =
 pub returns-in_err-dup-clause-refused : goal.returns-in_err-dup-clause-refused
 returns-in_err-dup-clause-refused c =
     let is = c.from_residual-in_err-dup.ensures in
-    let few : c.args.readers ≤ MOST_READERS = omega arith in
+    let few : c.args.readers ≤ MAX_READERS = omega arith in
     same_fault _ c.in_err-dup.field-0.0 is.0 is.1 ∙ c.in_err-dup.ensures.refused
     ∙ opens_more c.args.readers c.loop.counter (arc_value c.shelf.inside.items) c.loop.cast c.loop.invariant
     c.loop-test.true few

@@ -9,14 +9,16 @@ use Rattle.txc_cast.proofs.Readers.{read_at}
 use Rattle.txc_cast.proofs.Loops.{copies, copied}
 use Rattle.txc_cast.proofs.cast.Cast.remaining.Goals as goal
 
-pub loop-place-preserved : goal.loop-place-preserved
-loop-place-preserved c =
+pub loop-position-preserved : goal.loop-position-preserved
+loop-position-preserved c =
     let tokens = c.self.inside.tokens in
-    let token : c.index.result.now ≡ get_or tokens.items c.loop-place.place c.index.result.now = c.index.ensures in
-    let room = c.loop-place.invariant.1 in (
-      copies tokens.items c.place-place.result c.loop-place.place c.reserve.new.self.items c.loop-place.list.items
+    let token : c.index.result.now ≡ get_or tokens.items c.loop-position.position c.index.result.now = c.index.ensures
+    in
+    let room = c.loop-position.invariant.1 in (
+      copies tokens.items c.position-position.result c.loop-position.position c.reserve.new.self.items
+          c.loop-position.list.items
           c.push_reserved.new.self.items c.index.result.now c.value.result.now
-          c.loop-place.auto.place (omega arith) token c.value.ensures c.loop-place.invariant.0
+          c.loop-position.auto.position (omega arith) token c.value.ensures c.loop-position.invariant.0
           c.push_reserved.ensures.items,
       omega arith,
     )
@@ -34,8 +36,8 @@ returns-clause-ok c =
     ∙ c.backs-backs.ensures in
     let many = length-map inside.tokens.items (λ (token : Where Item). token.value) in
     let all = c.len-written.ensures ∙ inside.tokens.ok.0 in
-    let past = c.loop-place-test.false in
-    copied (items_shown inside.tokens.items) c.in-Some.cursor.now c.place-place.result c.loop-place.place
-    c.reserve.new.self.items c.loop-place.list.items
-    backs c.place-place.ensures (omega (arith, many, all, past)) c.loop-place.invariant.0
+    let past = c.loop-position-test.false in
+    copied (items_shown inside.tokens.items) c.in-Some.cursor.now c.position-position.result c.loop-position.position
+    c.reserve.new.self.items c.loop-position.list.items
+    backs c.position-position.ensures (omega (arith, many, all, past)) c.loop-position.invariant.0
     ∙ ap (λ (r : Reader). r.list) reader

@@ -10,14 +10,14 @@ pub returns-in_err-get : goal.returns-in_err-get
 returns-in_err-get c =
     let past = c.in_err-get.ensures.lookup.0 in
     c.from_residual.ensures
-    ∙ sym (none_at (λ (t : Where Item). t.index) c.self.inside.tokens.items c.deref.result.now c.args.place
+    ∙ sym (none_at (λ (t : Where Item). t.index) c.self.inside.tokens.items c.deref.result.now c.args.position
     c.deref.ensures.value past)
-    ∙ ap (λ (b : Broadcast). slice_get b.slots c.args.place) c.self.view_is
+    ∙ ap (λ (b : Broadcast). slice_get b.slots c.args.position) c.self.view_is
 
 pub returns : goal.returns
 returns c =
     let found = c.in_ok-get.ensures.lookup in
     ap Some c.index.ensures
-    ∙ sym (stands_at (λ (t : Where Item). t.index) c.self.inside.tokens.items c.deref.result.now c.args.place
+    ∙ sym (stands_at (λ (t : Where Item). t.index) c.self.inside.tokens.items c.deref.result.now c.args.position
     c.in_ok-get.field-0.now c.deref.ensures.value found.0 found.1)
-    ∙ ap (λ (b : Broadcast). slice_get b.slots c.args.place) c.self.view_is
+    ∙ ap (λ (b : Broadcast). slice_get b.slots c.args.position) c.self.view_is

@@ -2,7 +2,7 @@ use Rattle.std.proofs.Common.{sym, ap, ◌∙◌, subst}
 use Rattle.std.specs.Prelude.{IfOk}
 use Rattle.txc_chan.specs.declared.body.Body.{Body}
 use Rattle.txc_chan.specs.declared.body.Body.TheVariants.{Shelved, Fanned}
-use Rattle.txc_chan.specs.BodyCalls.{TakesFrom, MoreRoom}
+use Rattle.txc_chan.specs.BodyCalls.{TakesFrom, MoreUndoable}
 use Rattle.txc_chan.proofs.BodyLemmas.{if_ok_mapped, on_err_mapped}
 use Rattle.txc_chan.proofs.FanoutLemmas.{takes_fed, makes_room_fed}
 use Rattle.txc_chan.proofs.TakeLemmas.{takes, makes_room, stays}
@@ -20,9 +20,10 @@ returns-in-Shelved-clause-ok c =
 pub returns-in-Shelved-clause-room : goal.returns-in-Shelved-clause-room
 returns-in-Shelved-clause-room c =
     subst (λ (old : Body). IfOk c.map_err-in-Shelved.result
-    (λ t. MoreRoom t old c.args.reader (Shelved c.take.new.self)))
+    (λ t. MoreUndoable t old c.args.reader (Shelved c.take.new.self)))
     (sym c.in-Shelved.is)
-    (if_ok_mapped (λ t. MoreRoom t (Shelved c.in-Shelved.cast) c.args.reader (Shelved c.take.new.self)) _ c.take.result
+    (if_ok_mapped (λ t. MoreUndoable t (Shelved c.in-Shelved.cast) c.args.reader (Shelved c.take.new.self)) _
+    c.take.result
     c.map_err-in-Shelved.result c.map_err-in-Shelved.ensures.cases c.map_err-in-Shelved.ensures.variant
     (λ t is. makes_room c.in-Shelved.cast c.take.new.self c.args.reader t (is ∙ c.take.ensures.value)
     c.take.ensures.taken))
@@ -38,12 +39,12 @@ returns-in-Fanned-clause-ok c =
     subst (λ (old : Body). IfOk c.take-in-Fanned.result
     (λ t. TakesFrom t old c.args.reader (Fanned c.take-in-Fanned.new.self)))
     (sym c.in-Fanned.is)
-    (takes_fed c.in-Fanned.feed c.take-in-Fanned.new.self c.args.reader c.take-in-Fanned.result
+    (takes_fed c.in-Fanned.fanout c.take-in-Fanned.new.self c.args.reader c.take-in-Fanned.result
     c.take-in-Fanned.ensures.refused c.take-in-Fanned.ensures.value c.take-in-Fanned.ensures.taken)
 
 pub returns-in-Fanned-clause-room : goal.returns-in-Fanned-clause-room
 returns-in-Fanned-clause-room c =
     subst (λ (old : Body). IfOk c.take-in-Fanned.result
-    (λ t. MoreRoom t old c.args.reader (Fanned c.take-in-Fanned.new.self))) (sym c.in-Fanned.is)
-    (makes_room_fed c.in-Fanned.feed c.take-in-Fanned.new.self c.args.reader c.take-in-Fanned.result
+    (λ t. MoreUndoable t old c.args.reader (Fanned c.take-in-Fanned.new.self))) (sym c.in-Fanned.is)
+    (makes_room_fed c.in-Fanned.fanout c.take-in-Fanned.new.self c.args.reader c.take-in-Fanned.result
     c.take-in-Fanned.ensures.refused c.take-in-Fanned.ensures.value c.take-in-Fanned.ensures.taken)

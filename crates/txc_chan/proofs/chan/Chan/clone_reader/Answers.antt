@@ -1,6 +1,6 @@
 use Rattle.std.proofs.Common.{subst, ◌+◌, rules, ◌≡◌, [], ◌∷◌, ◌++◌}
 use Rattle.txc_base.specs.declared.act.Act.TheVariants.{Cloned}
-use Rattle.txc_base.specs.Fair.{written}
+use Rattle.txc_base.specs.InOrder.{written}
 use Rattle.txc_chan.proofs.ActLemmas.{clones, entry, still_fits}
 use Rattle.txc_chan.specs.Chan.{IsSoundChan}
 use Rattle.txc_chan.proofs.chan.Chan.clone_reader.Goals as goal

@@ -1,6 +1,6 @@
 use Rattle.std.proofs.Common.{rules, subst, sym, ◌≡◌, [], ◌∷◌, ◌++◌}
 use Rattle.txc_base.specs.declared.act.Act.TheVariants.{Took}
-use Rattle.txc_base.specs.Fair.{written}
+use Rattle.txc_base.specs.InOrder.{written}
 use Rattle.txc_chan.proofs.ActLemmas.{entry, still_fits, takes_settled}
 use Rattle.txc_chan.specs.Chan.{IsSoundChan}
 use Rattle.txc_chan.proofs.chan.Chan.commit_take.Goals as goal

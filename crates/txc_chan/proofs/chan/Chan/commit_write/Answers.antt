@@ -2,7 +2,7 @@ use Rattle.std.proofs.Common.{subst, ◌+◌, rules, ap, sym, ◌∙◌, ◌≡�
 use Rattle.std.specs.Prelude.{Result, Ok, Err, OnOk}
 use Rattle.std.specs.Result.{is_err}
 use Rattle.txc_base.specs.declared.act.Act.TheVariants.{Wrote}
-use Rattle.txc_base.specs.Fair.{written}
+use Rattle.txc_base.specs.InOrder.{written}
 use Rattle.txc_base.specs.Kinds.{is_bounded}
 use Rattle.txc_base.specs.Operation.{next_written}
 use Rattle.txc_chan.proofs.ActLemmas.{entry, still_fits, writes}
@@ -51,8 +51,8 @@ invariant_of-self-2 g c =
           (writes now.decl now.body c.write.new.self now.closed now.written now.backs (g.K.Log.entries now.log) _
           (g.K.Log.undoable now.log) c.args.tag c.args.body c.self.invariant.sound
           unshut (ap not (sym full ∙ c.if-is_full.false))
-          (rw c.made_item-item.ensures at lists) c.write.ensures.keeps c.write.ensures.room
-          (rw c.made_item-item.ensures at (items c.self.invariant.sound.stocked)) log)
+          (rw c.make_item-item.ensures at lists) c.write.ensures.keeps c.write.ensures.room
+          (rw c.make_item-item.ensures at (items c.self.invariant.sound.stocked)) log)
           (λ k. c.write.ensures.room k
           ∙ no_room now.decl now.body now.closed now.written now.backs (g.K.Log.entries now.log)
           (g.K.Log.undoable now.log) clean c.self.invariant.sound k));

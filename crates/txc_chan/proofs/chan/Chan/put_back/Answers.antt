@@ -1,6 +1,6 @@
 use Rattle.std.proofs.Common.{subst, ◌+◌, rules, ◌≡◌, sym, ap, ◌∙◌, false, not, [], ◌∷◌, ◌++◌, slice_get, Some, arith}
 use Rattle.txc_base.specs.declared.act.Act.TheVariants.{PutBack}
-use Rattle.txc_base.specs.Fair.{written}
+use Rattle.txc_base.specs.InOrder.{written}
 use Rattle.txc_base.specs.Operation.{next_back}
 use Rattle.txc_chan.proofs.ActLemmas.{entry, puts, still_fits}
 use Rattle.txc_chan.proofs.KeptLemmas.{counts_within}
@@ -33,8 +33,8 @@ invariant_of-self-2 g c =
       sound = subst (IsSoundChan _ _ _ _ _ _) more
           (puts now.decl now.body c.put_back.new.self now.closed now.written now.backs (g.K.Log.entries now.log) _
           (g.K.Log.undoable now.log) c.args.tag c.args.reader c.in-Some.body c.self.invariant.sound
-          there unshut (ap not (sym c.is_closed_to_backs.ensures ∙ c.if-is_closed_to_backs.false))
-          (rw c.made_item-item.ensures at c.in_ok-put_back.ensures.lists) c.put_back.ensures.only.keeps
+          there unshut (ap not (sym c.put_back_must_wait.ensures ∙ c.if-put_back_must_wait.false))
+          (rw c.make_item-item.ensures at c.in_ok-put_back.ensures.lists) c.put_back.ensures.only.keeps
           c.put_back.ensures.only.room
           (c.put_back.ensures.only.items (written (g.K.Log.entries now.log)) c.self.invariant.sound.stocked) log);
       fits = still_fits c.put_back.ensures.only.keeps c.self.invariant.fits;

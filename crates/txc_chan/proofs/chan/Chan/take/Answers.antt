@@ -1,8 +1,8 @@
 use Rattle.std.proofs.Common.{◌+◌, rules, subst, ◌≡◌, [], ◌∷◌, ◌++◌}
 use Rattle.txc_base.specs.declared.act.Act.TheVariants.{Took}
-use Rattle.txc_base.specs.Fair.{written}
+use Rattle.txc_base.specs.InOrder.{written}
 use Rattle.txc_chan.proofs.ActLemmas.{entry, still_fits, takes}
-use Rattle.txc_chan.specs.BodyCalls.{TakesFrom, MoreRoom}
+use Rattle.txc_chan.specs.BodyCalls.{TakesFrom, MoreUndoable}
 use Rattle.txc_chan.specs.Chan.{IsSoundChan}
 use Rattle.txc_chan.proofs.chan.Chan.take.Goals as goal
 
@@ -18,7 +18,7 @@ invariant_of-self-2 g c =
           (g.K.Log.undoable c.self.inside.log) c.args.tag c.args.reader c.in-Some.item c.self.invariant.sound
           (subst (λ t. TakesFrom t c.self.inside.body c.args.reader c.take.new.self) c.in-Some.is
           c.in_ok-item.ensures.ok) c.in_ok-item.ensures.keeps
-          (subst (λ t. MoreRoom t c.self.inside.body c.args.reader c.take.new.self) c.in-Some.is
+          (subst (λ t. MoreUndoable t c.self.inside.body c.args.reader c.take.new.self) c.in-Some.is
           c.in_ok-item.ensures.room)
           (c.in_ok-item.ensures.items (written (g.K.Log.entries c.self.inside.log)) c.self.invariant.sound.stocked)
           log);

@@ -1,6 +1,6 @@
 use Rattle.std.proofs.Common.{subst, ◌+◌, rules, ap, sym, ◌∙◌, ◌≡◌, ◌&&◌, [], ◌∷◌, ◌++◌, false, not, arith}
 use Rattle.txc_base.specs.declared.act.Act.TheVariants.{Wrote}
-use Rattle.txc_base.specs.Fair.{written}
+use Rattle.txc_base.specs.InOrder.{written}
 use Rattle.txc_base.specs.Kinds.{is_bounded}
 use Rattle.txc_base.specs.Operation.{next_written}
 use Rattle.txc_chan.proofs.ActLemmas.{entry, still_fits, writes}
@@ -36,8 +36,8 @@ invariant_of-self-2 g c =
           (writes now.decl now.body c.write.new.self now.closed now.written now.backs (g.K.Log.entries now.log) _
           (g.K.Log.undoable now.log) c.args.tag c.in-Some.body c.self.invariant.sound
           unshut (ap not (sym full ∙ c.if-is_full.false))
-          (rw c.made_item-item.ensures at c.in_ok-write.ensures.lists) c.write.ensures.keeps c.write.ensures.room
-          (rw c.made_item-item.ensures at
+          (rw c.make_item-item.ensures at c.in_ok-write.ensures.lists) c.write.ensures.keeps c.write.ensures.room
+          (rw c.make_item-item.ensures at
           (c.in_ok-write.ensures.items (written (g.K.Log.entries now.log)) c.self.invariant.sound.stocked)) log);
       fits = still_fits c.write.ensures.keeps c.self.invariant.fits;
     }

@@ -7,7 +7,7 @@ use Rattle.txc_txn_check.specs.Steps.{Fits}
 use Rattle.txc_table_line.specs.SeatShare.{SeatShareView}
 use Rattle.txc_table_lines.specs.Lines.{line_ids}
 use Rattle.txc_table.specs.Table.{TableView}
-use Rattle.txc_table.proofs.AtOnce.{kept_at_once, line_suits, only_declared, retried_at_once}
+use Rattle.txc_table.proofs.AtOnce.{kept_at_once, line_supports, only_declared, retried_at_once}
 use Rattle.txc_table.proofs.Trying.{kinds_within}
 use Rattle.txc_table.proofs.table.Table.commit_at_once.Goals as goal
 
@@ -27,8 +27,8 @@ commit_one-requires-clause-there g c =
     (c.show_fits.ensures.there fits (chan_of c.in-Some.op.now)
     (only_declared c.args.call.now.checked.now.declared c.in-Some.op.now c.in-Some.ensures.some.1))
 
-pub commit_one-requires-clause-suits : goal.commit_one-requires-clause-suits
-commit_one-requires-clause-suits g c =
+pub commit_one-requires-clause-supports : goal.commit_one-requires-clause-supports
+commit_one-requires-clause-supports g c =
     let of : line_ids c.args.shares.now ≡ c.self.inside.lines =
     c.requires.of ∙ sym (ap (λ (t : TableView). t.lines.all) c.self.view_is) in
     let kinds : c.as_slice.result.now ≡ c.args.self.now.kinds =
@@ -44,7 +44,7 @@ commit_one-requires-clause-suits g c =
       ap length of,
       length-map c.args.shares.now (λ (share : SeatShareView). share.line),
     ) in
-    line_suits c.args.shares.now c.self.inside.lines c.as_slice.result.now c.in-Some.op.now
+    line_supports c.args.shares.now c.self.inside.lines c.as_slice.result.now c.in-Some.op.now
     c.args.call.now.checked.now.steps of (c.as_slice.ensures ∙ c.self.invariant.declared) c.show-2.ensures below there
     c.in-Some.ensures.some.0 fits
 

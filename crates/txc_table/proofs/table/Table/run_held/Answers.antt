@@ -69,7 +69,7 @@ returns-clause-outcome g c =
     let m : Map = chans_of c.take-guards.result in
     let of : line_ids c.args.shares.now ≡ c.self.inside.lines =
     c.requires.of ∙ sym (ap (λ (t : TableView). t.lines.all) c.self.view_is) in
-    held_answers c.args.shares.now m (chans_of c.commit-ran.new.self) c.args.spent.tag
+    held_answers c.args.shares.now m (chans_of c.commit-ran.new.self) c.args.recycled.tag
     c.args.call.now.checked.now.declared c.args.call.now.checked.now.steps c.commit-ran.result
     (known_of c.args.shares.now c.self.inside.lines m of c.take-guards.ensures.known c.take-guards.ensures.since)
     c.commit-ran.ensures.ran
@@ -79,7 +79,7 @@ returns-clause-stopped g c =
     let m : Map = chans_of c.take-guards.result in
     let of : line_ids c.args.shares.now ≡ c.self.inside.lines =
     c.requires.of ∙ sym (ap (λ (t : TableView). t.lines.all) c.self.view_is) in
-    held_stop c.args.shares.now m c.args.spent.tag c.args.call.now.checked.now.declared
+    held_stop c.args.shares.now m c.args.recycled.tag c.args.call.now.checked.now.declared
     c.args.call.now.checked.now.steps c.commit-ran.result
     (known_of c.args.shares.now c.self.inside.lines m of c.take-guards.ensures.known c.take-guards.ensures.since)
     c.commit-ran.ensures.stopped
@@ -101,7 +101,7 @@ returns-clause-kept g c =
     commit.new.shares n))) same commit.ensures.committed in
     let grew = subst (λ (shares : List SeatShareView). IfOk commit.result
     (λ ran. IfKept ran (λ receipt. OnlyGrew shares commit.new.shares))) same commit.ensures.grew in
-    kept_with c.args.spent.tag c.args.call.now.checked.now m (chans_of commit.new.self) before commit.new.shares
+    kept_with c.args.recycled.tag c.args.call.now.checked.now m (chans_of commit.new.self) before commit.new.shares
     commit.result
     (λ n is. omega (
       arith,

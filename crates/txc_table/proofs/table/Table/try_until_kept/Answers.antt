@@ -13,8 +13,8 @@ returns-in-Err-clause-outcome g c = record {
   returned = tt;
   sees = tt;
   stopped = subst (λ (s : SeatView). c.in-Err.stop ≢ NoMemory
-      → ((m : Map) × AreFound (decls_of c.args.self.now.lines) s.sitting.receipts (seen_at s) m
-      × (transaction m (next_tag s.sitting) c.args.checked.now.declared c.args.checked.now.steps
+      → ((m : Map) × AreFound (decls_of c.args.self.now.lines) s.commits.receipts (seen_at s) m
+      × (transaction m (next_tag s.commits) c.args.checked.now.declared c.args.checked.now.steps
       ≡ Aborted c.in-Err.stop)))
       c.loop.invariant c.in-Err.ensures.stopped;
   unchanged = search rules;
@@ -25,8 +25,8 @@ returns-in-Ok-Some-clause-outcome g c =
     let attempted = rw c.in-Ok-Some.field-0-is at c.in-Ok-Some.ensures in
     record {
       returned = subst (λ (s : SeatView). (m : Map)
-          × AreFound (decls_of c.args.self.now.lines) s.sitting.receipts (seen_at s) m
-          × Tells m s.sitting c.args.checked.now c.in-Ok-Some.tried c.try_once.new.seat.sitting) c.loop.invariant
+          × AreFound (decls_of c.args.self.now.lines) s.commits.receipts (seen_at s) m
+          × Tells m s.commits c.args.checked.now c.in-Ok-Some.tried c.try_once.new.seat.commits) c.loop.invariant
           attempted.outcome;
       sees = subst (λ (s : SeatView). Sees s c.in-Ok-Some.tried c.try_once.new.seat) c.loop.invariant attempted.sees;
       stopped = tt;

@@ -1,7 +1,7 @@
 use Rattle.std.proofs.Common.{◌∙◌, ◌+◌, refl, subst, ap, arith, List, length}
 use Rattle.std.proofs.lemmas.List.{length_push}
 use Rattle.txc_chan.specs.Chan.{account_of, without_log}
-use Rattle.txc_table_line.specs.Ledgered.{LedgeredView}
+use Rattle.txc_table_line.specs.LineChan.{LineChanView}
 use Rattle.txc_table_lines.proofs.Accounting.{logged_more, logged_none}
 use Rattle.txc_table_lines.specs.Accounted.{IsSnapshotAt}
 use Rattle.txc_table_lines.specs.Locked.{line_decls_of, helds_of}
@@ -24,7 +24,7 @@ loop-at-preserved c = record {
   made = logged_more (line_decls_of c.args.self.now) (helds_of c.args.self.now) c.loop-at.at c.loop-at.accounts.items
       c.push_reserved.new.self.items c.in_ok-take_snapshot.field-0 c.loop-at.invariant.many c.loop-at.invariant.made
       c.push_reserved.ensures.items
-      (subst (λ (now : List LedgeredView). IsSnapshotAt (λ held. without_log (account_of held)) (line_decls_of now)
+      (subst (λ (now : List LineChanView). IsSnapshotAt (λ held. without_log (account_of held)) (line_decls_of now)
       (helds_of now) c.loop-at.at c.in_ok-take_snapshot.field-0) c.loop-at.invariant.same
       c.in_ok-take_snapshot.ensures.ok);
   same = c.take_snapshot.ensures.same ∙ c.loop-at.invariant.same;

@@ -1,11 +1,11 @@
 use Rattle.std.proofs.Common.{◌∙◌, ◌<◌, refl, sym, ap, length, map}
 use Rattle.std.proofs.Common.{arith}
 use Rattle.std.proofs.lemmas.List.{length_push}
-use Rattle.txc_table_line.specs.Ledgered.{LedgeredView, no_channel}
-use Rattle.txc_table_line.specs.Line.{Books, BookSharesView}
+use Rattle.txc_table_line.specs.LineChan.{LineChanView, no_channel}
+use Rattle.txc_table_line.specs.Line.{Books, LedgerSharesView}
 use Rattle.txc_table_lines.specs.Guards.{channel_in}
 use Rattle.txc_table_lines.specs.Locked.{lines_of, no_part}
-use Rattle.txc_table_lines.proofs.Collecting.{clean_at, collected_many, one_book}
+use Rattle.txc_table_lines.proofs.Collecting.{clean_at, collected_many, one_ledger}
 use Rattle.txc_table_lines.proofs.Ending.{account_more, channel_next, next_there}
 use Rattle.txc_table_lines.proofs.Gaining.{next_all}
 use Rattle.txc_table_lines.proofs.Locking.{set_same}
@@ -18,7 +18,7 @@ index_mut-requires g c =
       arith,
       next_there _ _ _ _ _ c.loop-line.at inv.all c.in-Some.ensures.steps.0 inv.at,
       collected_many c.args.shares (lines_of c.args.self) c.requires.of,
-      map_long (λ (x : LedgeredView). x.line) c.args.self,
+      map_long (λ (x : LineChanView). x.line) c.args.self,
       ap length inv.shares,
       ap length c.shares.view_is,
     )
@@ -31,12 +31,12 @@ into_log-requires-clause-of g c =
       arith,
       there,
       collected_many c.args.shares (lines_of c.args.self) c.requires.of,
-      map_long (λ (x : LedgeredView). x.line) c.args.self,
+      map_long (λ (x : LineChanView). x.line) c.args.self,
     ) in
-    ap (λ (s : BookSharesView). s.books) (indexed _ _ _ _ _ (no_part no_channel.line.books)
+    ap (λ (s : LedgerSharesView). s.ledgers) (indexed _ _ _ _ _ (no_part no_channel.line.ledgers)
     (inv.shares ∙ c.shares.view_is) refl below c.index_mut.ensures.value)
-    ∙ one_book c.args.shares c.args.self c.loop-line.at c.requires.of
-    ∙ ap (λ (x : LedgeredView). x.line.books) (channel_next _ _ _ _ _ c.loop-line.at c.in-Some-line.line inv.all
+    ∙ one_ledger c.args.shares c.args.self c.loop-line.at c.requires.of
+    ∙ ap (λ (x : LineChanView). x.line.ledgers) (channel_next _ _ _ _ _ c.loop-line.at c.in-Some-line.line inv.all
     c.in-Some.ensures.steps.0 inv.at c.in-Some-line.is)
 
 pub into_log-requires-clause-parts : goal.into_log-requires-clause-parts
@@ -47,19 +47,19 @@ into_log-requires-clause-parts g c =
       arith,
       there,
       collected_many c.args.shares (lines_of c.args.self) c.requires.of,
-      map_long (λ (x : LedgeredView). x.line) c.args.self,
+      map_long (λ (x : LineChanView). x.line) c.args.self,
     ) in
-    ap (λ (s : BookSharesView). s.parts) (indexed _ _ _ _ _ (no_part no_channel.line.books)
+    ap (λ (s : LedgerSharesView). s.parts) (indexed _ _ _ _ _ (no_part no_channel.line.ledgers)
     (inv.shares ∙ c.shares.view_is) refl below c.index_mut.ensures.value)
-    ∙ c.requires.whole c.loop-line.at (no_part no_channel.line.books) below
-    ∙ ap (λ (b : Books). b.seats) (one_book c.args.shares c.args.self c.loop-line.at c.requires.of)
-    ∙ ap (λ (x : LedgeredView). x.line.books.seats) (channel_next _ _ _ _ _ c.loop-line.at c.in-Some-line.line
+    ∙ c.requires.whole c.loop-line.at (no_part no_channel.line.ledgers) below
+    ∙ ap (λ (b : Books). b.seats) (one_ledger c.args.shares c.args.self c.loop-line.at c.requires.of)
+    ∙ ap (λ (x : LineChanView). x.line.ledgers.seats) (channel_next _ _ _ _ _ c.loop-line.at c.in-Some-line.line
     inv.all c.in-Some.ensures.steps.0 inv.at c.in-Some-line.is)
 
 pub into_log-requires-clause-clean : goal.into_log-requires-clause-clean
 into_log-requires-clause-clean g c =
     let inv = c.loop-line.invariant in
-    ap (λ (x : LedgeredView). x.held.logged.pending) (sym (channel_next _ _ _ _ _ c.loop-line.at
+    ap (λ (x : LineChanView). x.held.logged.pending) (sym (channel_next _ _ _ _ _ c.loop-line.at
     c.in-Some-line.line inv.all c.in-Some.ensures.steps.0 inv.at c.in-Some-line.is))
     ∙ clean_at c.args.self c.loop-line.at c.requires.clean
     (next_there _ _ _ _ _ c.loop-line.at inv.all c.in-Some.ensures.steps.0 inv.at)
@@ -71,14 +71,14 @@ loop-line-preserved g c =
       arith,
       next_there _ _ _ _ _ c.loop-line.at inv.all c.in-Some.ensures.steps.0 inv.at,
       collected_many c.args.shares (lines_of c.args.self) c.requires.of,
-      map_long (λ (x : LedgeredView). x.line) c.args.self,
+      map_long (λ (x : LineChanView). x.line) c.args.self,
       ap length inv.shares,
       ap length c.shares.view_is,
     ) in
     record {
       all = ap (map channel_in) (next_all c.loop-line.yielded _ _ _ c.in-Some.line refl c.in-Some.ensures.steps.0)
           ∙ inv.all;
-      accounts = c.give_log.ensures ∙ account_more c.args.accounts.items c.loop-line.yielded c.in-Some.line
+      accounts = c.set_log.ensures ∙ account_more c.args.accounts.items c.loop-line.yielded c.in-Some.line
           c.in-Some-line.line c.loop-line.at _ _ inv.accounts inv.at c.in-Some-line.is c.into_log.ensures.log;
       at = omega (arith, inv.at, length_push c.loop-line.yielded c.in-Some.line);
       shares = set_same c.loop-line.shares.items c.loop-line.at c.into_log.new.shares c.index_mut.result.now

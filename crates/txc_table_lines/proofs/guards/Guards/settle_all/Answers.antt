@@ -1,6 +1,6 @@
 use Rattle.std.proofs.Common.{◌≡◌, ◌∙◌, ◌<◌, sym, ap, subst, length, slice_index_or, slice_set, ℕ, List, arith}
 use Rattle.txc_txn.specs.Maps.{Map, settle_all}
-use Rattle.txc_table_line.specs.Ledgered.{LedgeredView, no_channel}
+use Rattle.txc_table_line.specs.LineChan.{LineChanView, no_channel}
 use Rattle.txc_table_line.specs.SeatShare.{SeatShareView}
 use Rattle.txc_table_lines.specs.Committed.{AreSettled, IsSettled}
 use Rattle.txc_table_lines.specs.Guards.{IsReady, GuardsView, chan_at, chans_of, known_of}
@@ -52,7 +52,7 @@ settle_line-requires g c =
         inv.lines ∙ c.requires.of ∙ ap line_ids (sym inv.known),
         (
           subst (λ (ds : List ℕ). c.loop-at.at < length ds) (sym inv.declared) below,
-          subst (λ (x : LedgeredView). IsReady c.args.tag.stamp x.held.logged)
+          subst (λ (x : LineChanView). IsReady c.args.tag.stamp x.held.logged)
               (sym ((inv.swept.todo c.loop-at.at (omega arith) below).0))
               (ready_at c.args.tag.stamp now.declared now.channels now.known c.loop-at.at c.requires.rising
               (channels_long _ _ _ _ c.self.view_is c.self.invariant) below c.requires.ready),

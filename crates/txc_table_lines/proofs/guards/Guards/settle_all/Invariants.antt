@@ -1,5 +1,5 @@
 use Rattle.std.proofs.Common.{◌≡◌}
-use Rattle.txc_table_line.specs.Ledgered.{no_channel}
+use Rattle.txc_table_line.specs.LineChan.{no_channel}
 use Rattle.txc_table_lines.specs.Committed.{IsSettled}
 use Rattle.txc_table_lines.specs.Lines.{line_ids, no_share}
 use Rattle.txc_table_lines.proofs.Sweeping.{Swept}

@@ -1,5 +1,5 @@
 use Rattle.std.proofs.Common.{rules, refl, ◌≡◌, ◌∙◌, sym, ap, subst, slice_index_or, slice_set, map, arith}
-use Rattle.txc_table_line.specs.Ledgered.{LedgeredView, no_channel}
+use Rattle.txc_table_line.specs.LineChan.{LineChanView, no_channel}
 use Rattle.txc_table_line.specs.SeatShare.{SeatShareView}
 use Rattle.txc_table_lines.specs.Guards.{IsReady, GuardsView, channel_in}
 use Rattle.txc_table_lines.specs.Lines.{line_ids, no_share}
@@ -36,12 +36,12 @@ settle-requires-clause-of g c =
 
 pub settle-requires-clause-stamped : goal.settle-requires-clause-stamped
 settle-requires-clause-stamped g c =
-    (subst (λ (x : LedgeredView). IsReady c.args.tag.stamp x.held.logged) (guard_channel _ _ _ _ _ _ _ _
+    (subst (λ (x : LineChanView). IsReady c.args.tag.stamp x.held.logged) (guard_channel _ _ _ _ _ _ _ _
     c.self.view_is c.self.invariant c.requires.there c.deref_mut.ensures.value c.in-Some.is) c.requires.ready).stamped
 
 pub settle-requires-clause-later : goal.settle-requires-clause-later
 settle-requires-clause-later g c =
-    (subst (λ (x : LedgeredView). IsReady c.args.tag.stamp x.held.logged) (guard_channel _ _ _ _ _ _ _ _
+    (subst (λ (x : LineChanView). IsReady c.args.tag.stamp x.held.logged) (guard_channel _ _ _ _ _ _ _ _
     c.self.view_is c.self.invariant c.requires.there c.deref_mut.ensures.value c.in-Some.is) c.requires.ready).later
 
 pub invariant_of-self : goal.invariant_of-self

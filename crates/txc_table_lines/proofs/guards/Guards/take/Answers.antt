@@ -1,10 +1,10 @@
 use Rattle.std.proofs.Common.{All, refl, ◌≡◌, ◌<◌, ◌∙◌, [], ℕ, List, Option, sym, ap, subst, take, length}
 use Rattle.std.proofs.Common.{◌≤◌, ◌+◌, arith}
 use Rattle.std.proofs.lemmas.List.{length-take, take_all}
-use Rattle.txc_table_line.specs.Ledgered.{LedgeredView}
+use Rattle.txc_table_line.specs.LineChan.{LineChanView}
 use Rattle.txc_table_line.specs.SeatShare.{SeatShareView}
 use Rattle.txc_table_lines.specs.Guards.{AreLocked, AreTaken}
-use Rattle.txc_table_lines.specs.Lines.{AreTrue, line_ids}
+use Rattle.txc_table_lines.specs.Lines.{AreValidShares, line_ids}
 use Rattle.txc_table_lines.proofs.Sharing.{map_long}
 use Rattle.txc_table_lines.proofs.Taking.{are_locked, taken_clean, taken_known, taken_long, taken_more, taken_since}
 use Rattle.txc_table_lines.proofs.guards.Guards.take.Goals as goal
@@ -40,7 +40,7 @@ loop-number-preserved g c = record {
 }
 
 -- all declared lines are locked
-all_taken : (shares initial : List SeatShareView) (declared : List ℕ) (guards : List (Option LedgeredView)) (i : ℕ)
+all_taken : (shares initial : List SeatShareView) (declared : List ℕ) (guards : List (Option LineChanView)) (i : ℕ)
     → shares ≡ initial → length declared ≤ i → AreTaken shares (take i declared) guards
     → AreTaken initial declared guards
 all_taken shares initial declared guards i same all are =
@@ -64,21 +64,21 @@ returns-clause-known g c n below =
     let long : length c.args.shares.now ≡ length c.args.lines.now
     = sym (map_long (λ (s : SeatShareView). s.line) c.args.shares.now) ∙ ap length c.requires.of in
     rw c.of-known.ensures (taken_known c.args.shares.now c.args.declared.now c.loop-number.locked.items
-    (subst AreTrue c.loop-number.invariant.same c.show.ensures) taken n (omega (arith, below, long)))
+    (subst AreValidShares c.loop-number.invariant.same c.show.ensures) taken n (omega (arith, below, long)))
 
 pub returns-clause-since : goal.returns-clause-since
 returns-clause-since g c =
     let taken = all_taken _ _ _ _ _ c.loop-number.invariant.same c.loop-number-test.false
     c.loop-number.invariant.found in
     rw c.of-known.ensures (taken_since c.args.shares.now c.args.declared.now c.loop-number.locked.items
-    (subst AreTrue c.loop-number.invariant.same c.show.ensures) taken)
+    (subst AreValidShares c.loop-number.invariant.same c.show.ensures) taken)
 
 pub returns-clause-clean : goal.returns-clause-clean
 returns-clause-clean g c =
     let taken = all_taken _ _ _ _ _ c.loop-number.invariant.same c.loop-number-test.false
     c.loop-number.invariant.found in
     rw c.of-known.ensures (taken_clean c.args.shares.now c.args.declared.now c.loop-number.locked.items
-    (subst AreTrue c.loop-number.invariant.same c.show.ensures) taken)
+    (subst AreValidShares c.loop-number.invariant.same c.show.ensures) taken)
 
 pub returns-clause-same : goal.returns-clause-same
 returns-clause-same g c = c.loop-number.invariant.same

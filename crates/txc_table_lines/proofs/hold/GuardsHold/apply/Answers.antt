@@ -1,5 +1,5 @@
 use Rattle.std.proofs.Common.{◌≡◌, ◌≢◌, true, subst, IfOk, IfErr, OnErr, arith}
-use Rattle.txc_base.specs.Kinds.{suits}
+use Rattle.txc_base.specs.Kinds.{supports}
 use Rattle.txc_base.specs.declared.stop.Stop.TheVariants.{NoMemory}
 use Rattle.txc_chan.specs.Logged.{Logged, Stopped, UnlessReplied, did, op_on}
 use Rattle.txc_table_lines.proofs.Placing.{guarded, guarded_others, guarded_step, locked_changed, never_none, within}
@@ -17,9 +17,9 @@ unreachable-requires g c = absurd (never_none _ _ _ _ _ _ _ c.self.view_is c.sel
     c.deref_mut.ensures.value c.in-None.is)
 
 pub apply-requires : goal.apply-requires
-apply-requires g c = subst (λ (l : Logged). suits l.decl.kind c.args.op.now ≡ true) (guarded _ _ _ _ _ _ _ _ _
+apply-requires g c = subst (λ (l : Logged). supports l.decl.kind c.args.op.now ≡ true) (guarded _ _ _ _ _ _ _ _ _
     c.self.view_is c.self.invariant
-    c.place-at.ensures.place c.place-at.ensures.there c.deref_mut.ensures.value c.in-Some.is) c.requires.suits
+    c.place-at.ensures.place c.place-at.ensures.there c.deref_mut.ensures.value c.in-Some.is) c.requires.supports
 
 pub invariant_of-self : goal.invariant_of-self
 invariant_of-self g c = locked_changed _ _ _ _ _ _ _ _ _ c.self.view_is c.self.invariant c.place-at.ensures.there

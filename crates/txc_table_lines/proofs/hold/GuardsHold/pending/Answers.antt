@@ -1,5 +1,5 @@
 use Rattle.std.proofs.Common.{◌∙◌, sym, ap, subst, arith}
-use Rattle.txc_chan.specs.Logged.{IsLawful, Logged}
+use Rattle.txc_chan.specs.Logged.{MatchesLog, Logged}
 use Rattle.txc_table_lines.proofs.Placing.{guarded, never_none, within}
 use Rattle.txc_table_lines.proofs.hold.GuardsHold.pending.Goals as goal
 
@@ -20,5 +20,5 @@ returns-clause-value g c = c.pending.ensures.value ∙ sym (ap (λ (l : Logged).
     c.place-at.ensures.place c.place-at.ensures.there c.deref_mut.ensures.value c.in-Some.is))
 
 pub returns-clause-lawful : goal.returns-clause-lawful
-returns-clause-lawful g c = subst IsLawful (sym (guarded _ _ _ _ _ _ _ _ _ c.self.view_is c.self.invariant
+returns-clause-lawful g c = subst MatchesLog (sym (guarded _ _ _ _ _ _ _ _ _ c.self.view_is c.self.invariant
     c.place-at.ensures.place c.place-at.ensures.there c.deref_mut.ensures.value c.in-Some.is)) c.pending.ensures.lawful

@@ -1,13 +1,13 @@
 use Rattle.std.proofs.Common.{◌≡◌, ◌≢◌, true, subst, IfOk, IfErr, OnErr, arith}
-use Rattle.txc_base.specs.Kinds.{suits}
+use Rattle.txc_base.specs.Kinds.{supports}
 use Rattle.txc_base.specs.declared.stop.Stop.TheVariants.{NoMemory}
 use Rattle.txc_chan.specs.Logged.{Logged, Stopped, UnlessReplied, did, op_on}
 use Rattle.txc_table_lines.proofs.Locking.{chan_is, chan_others, chan_step, lines_written, there_written}
 use Rattle.txc_table_lines.proofs.locked_hold.LockedLinesHold.apply.Goals as goal
 
 pub apply-requires : goal.apply-requires
-apply-requires g c = subst (λ (l : Logged). suits l.decl.kind c.args.op.now ≡ true) (chan_is _ _ _ _ _ _ _
-    c.self.view_is c.as_mut_slice.ensures.value c.from.ensures c.requires.held c.in-Some.is) c.requires.suits
+apply-requires g c = subst (λ (l : Logged). supports l.decl.kind c.args.op.now ≡ true) (chan_is _ _ _ _ _ _ _
+    c.self.view_is c.as_mut_slice.ensures.value c.from.ensures c.requires.held c.in-Some.is) c.requires.supports
 
 pub invariant_of-self : goal.invariant_of-self
 invariant_of-self g c =

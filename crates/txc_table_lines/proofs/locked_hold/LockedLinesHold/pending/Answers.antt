@@ -1,5 +1,5 @@
 use Rattle.std.proofs.Common.{◌∙◌, sym, ap, subst}
-use Rattle.txc_chan.specs.Logged.{IsLawful, Logged}
+use Rattle.txc_chan.specs.Logged.{MatchesLog, Logged}
 use Rattle.txc_table_lines.proofs.Locking.{chan_is}
 use Rattle.txc_table_lines.proofs.locked_hold.LockedLinesHold.pending.Goals as goal
 
@@ -8,5 +8,5 @@ returns-clause-value g c = c.pending.ensures.value ∙ sym (ap (λ (l : Logged).
     c.self.view_is c.as_mut_slice.ensures.value c.from.ensures c.requires c.in-Some.is))
 
 pub returns-clause-lawful : goal.returns-clause-lawful
-returns-clause-lawful g c = subst IsLawful (sym (chan_is _ _ _ _ _ _ _ c.self.view_is c.as_mut_slice.ensures.value
+returns-clause-lawful g c = subst MatchesLog (sym (chan_is _ _ _ _ _ _ _ c.self.view_is c.as_mut_slice.ensures.value
     c.from.ensures c.requires c.in-Some.is)) c.pending.ensures.lawful

@@ -1,8 +1,8 @@
 use Rattle.std.proofs.Common.{◌≡◌, ◌∙◌, ◌<◌, refl, sym, ap, subst, length, arith}
-use Rattle.txc_table_line.specs.Ledgered.{LedgeredView}
+use Rattle.txc_table_line.specs.LineChan.{LineChanView}
 use Rattle.txc_table_line.specs.Known.{IsKnown}
 use Rattle.txc_table_line.specs.Line.{LineId}
-use Rattle.txc_table_line.specs.SeatShare.{IsTrue, SeatShareView}
+use Rattle.txc_table_line.specs.SeatShare.{IsValidShare, SeatShareView}
 use Rattle.txc_table_lines.specs.Lines.{no_share, share_at}
 use Rattle.txc_table_lines.specs.Locked.{IsLineSeen}
 use Rattle.txc_table_lines.proofs.Collecting.{as_many, clean_at, never, one_line, seen_same}
@@ -20,12 +20,12 @@ show_known-requires-clause-of g c =
     ap (λ (s : SeatShareView). s.line)
     (indexed _ _ _ _ _ no_share c.shares.view_is refl below c.index_mut-share.ensures.value)
     ∙ one_line c.args.shares.now c.args.self.now c.args.at c.requires.of
-    ∙ ap (λ (x : LedgeredView). x.line) (read _ _ _ _ _ _ c.self.view_is c.as_mut_slice.ensures.value
+    ∙ ap (λ (x : LineChanView). x.line) (read _ _ _ _ _ _ c.self.view_is c.as_mut_slice.ensures.value
     c.requires.there c.in-Some.is)
 
 pub show_known-requires-clause-clean : goal.show_known-requires-clause-clean
 show_known-requires-clause-clean g c =
-    ap (λ (x : LedgeredView). x.held.logged.pending) (sym (read _ _ _ _ _ _ c.self.view_is
+    ap (λ (x : LineChanView). x.held.logged.pending) (sym (read _ _ _ _ _ _ c.self.view_is
     c.as_mut_slice.ensures.value c.requires.there c.in-Some.is))
     ∙ clean_at c.args.self.now c.args.at c.requires.clean c.requires.there
 
@@ -42,7 +42,7 @@ invariant_of-shares g c =
       as_many c.args.shares.now c.args.self.now c.requires.of,
       ap length c.shares.view_is,
     ))
-    (subst IsTrue (sym c.show_known.ensures.share) c.show.ensures)
+    (subst IsValidShare (sym c.show_known.ensures.share) c.show.ensures)
 
 pub returns-clause-seen : goal.returns-clause-seen
 returns-clause-seen g c =
@@ -56,7 +56,7 @@ returns-clause-seen g c =
     let found = indexed _ _ _ _ _ no_share c.shares.view_is refl below c.index_mut-share.ensures.value in
     let line : share.line ≡ c.in-Some.line.line
     = ap (λ (s : SeatShareView). s.line) found ∙ one_line c.args.shares.now c.args.self.now c.args.at c.requires.of
-    ∙ ap (λ (x : LedgeredView). x.line) channel in
+    ∙ ap (λ (x : LineChanView). x.line) channel in
     let seen : IsLineSeen share c.in-Some.line = record {
       known = subst (λ (l : LineId). IsKnown l.decl share.amount c.in-Some.line.held.logged) (sym line)
           c.show_known.ensures.known;

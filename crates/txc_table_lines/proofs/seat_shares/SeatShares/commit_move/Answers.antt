@@ -13,7 +13,7 @@ use Rattle.txc_txn.specs.Transaction.{is_worn}
 use Rattle.txc_txn.specs.TwoOperations.{pair_of}
 use Rattle.txc_txn.proofs.Once.{none_so, some_so}
 use Rattle.txc_table_line.specs.Commit.{CountsOne}
-use Rattle.txc_table_line.specs.Ledgered.{LedgeredView}
+use Rattle.txc_table_line.specs.LineChan.{LineChanView}
 use Rattle.txc_table_line.specs.SeatShare.{SeatShareView}
 use Rattle.txc_table_lines.specs.Lines.{share_at}
 use Rattle.txc_table_lines.specs.TwoOperations.{IsCommittedMove}
@@ -25,8 +25,8 @@ use Rattle.txc_table_lines.proofs.seat_shares.SeatShares.commit_move.Goals as go
 
 pub returns-in_default-clause-once : goal.returns-in_default-clause-once
 returns-in_default-clause-once g c not =
-    let source : LedgeredView = c.take_both-source.result.0 in
-    let target : LedgeredView = c.take_both-source.result.1 in
+    let source : LineChanView = c.take_both-source.result.0 in
+    let target : LineChanView = c.take_both-source.result.1 in
     let s : Logged = source.held.logged in
     let t : Logged = target.held.logged in
     let most : c.max-most.result ≡ max (max c.args.tag.stamp s.stamp) t.stamp =
@@ -39,8 +39,8 @@ returns-in_default-clause-once g c not =
 
 pub returns-in-Err-clause-retry : goal.returns-in-Err-clause-retry
 returns-in-Err-clause-retry g c cause is =
-    let source : LedgeredView = c.take_both-source.result.0 in
-    let target : LedgeredView = c.take_both-source.result.1 in
+    let source : LineChanView = c.take_both-source.result.0 in
+    let target : LineChanView = c.take_both-source.result.1 in
     let s : Logged = source.held.logged in
     let t : Logged = target.held.logged in
     let most : c.max-most.result ≡ max (max c.args.tag.stamp s.stamp) t.stamp =
@@ -52,7 +52,7 @@ returns-in-Err-clause-retry g c cause is =
     c.in-Some.ensures.some in
     let same : c.log_len-place.new.self ≡ source = c.log_len-place.ensures.same ∙ c.stamp.ensures.same in
     let waits : operate s.channel c.in-Some.tag.seat None (Read c.args.what.from c.args.what.reader) ≡ Waits cause =
-    subst (λ (x : LedgeredView). operate x.held.logged.channel c.in-Some.tag.seat None
+    subst (λ (x : LineChanView). operate x.held.logged.channel c.in-Some.tag.seat None
     (Read c.args.what.from c.args.what.reader) ≡ Waits cause) same
     (err_so c.in_ok-item.field-0 c.in-Err.ended _ c.in-Err.is (c.in_ok-item.ensures.waits cause) is) in
     read_retries c.args.tag c.in-Some.tag c.args.what.from c.args.what.reader c.args.what.to s t c.args.self.now cause
@@ -60,8 +60,8 @@ returns-in-Err-clause-retry g c cause is =
 
 pub returns-in-Err-clause-once : goal.returns-in-Err-clause-once
 returns-in-Err-clause-once g c not =
-    let source : LedgeredView = c.take_both-source.result.0 in
-    let target : LedgeredView = c.take_both-source.result.1 in
+    let source : LineChanView = c.take_both-source.result.0 in
+    let target : LineChanView = c.take_both-source.result.1 in
     let s : Logged = source.held.logged in
     let t : Logged = target.held.logged in
     let most : c.max-most.result ≡ max (max c.args.tag.stamp s.stamp) t.stamp =
@@ -74,14 +74,14 @@ returns-in-Err-clause-once g c not =
     let same : c.log_len-place.new.self ≡ source = c.log_len-place.ensures.same ∙ c.stamp.ensures.same in
     read_none c.args.tag c.in-Some.tag c.args.what.from c.args.what.reader c.args.what.to s t c.args.self.now
     c.show.ensures begins
-    (subst (λ (x : LedgeredView). (item : Item) (left : Logged) → op_on x.held.logged c.in-Some.tag None
+    (subst (λ (x : LineChanView). (item : Item) (left : Logged) → op_on x.held.logged c.in-Some.tag None
     (Read c.args.what.from c.args.what.reader) ≢ Left (Got item) left) same
     (err_so c.in_ok-item.field-0 c.in-Err.ended _ c.in-Err.is c.in_ok-item.ensures.none))
 
 pub returns-in_default-2-clause-retry : goal.returns-in_default-2-clause-retry
 returns-in_default-2-clause-retry g c cause is =
-    let source : LedgeredView = c.take_both-source.result.0 in
-    let target : LedgeredView = c.take_both-source.result.1 in
+    let source : LineChanView = c.take_both-source.result.0 in
+    let target : LineChanView = c.take_both-source.result.1 in
     let s : Logged = source.held.logged in
     let t : Logged = target.held.logged in
     let most : c.max-most.result ≡ max (max c.args.tag.stamp s.stamp) t.stamp =
@@ -94,13 +94,13 @@ returns-in_default-2-clause-retry g c cause is =
     let same : c.log_len-place.new.self ≡ source = c.log_len-place.ensures.same ∙ c.stamp.ensures.same in
     let mid : Logged = c.take_item.new.source.held.logged in
     let took : op_on s c.in-Some.tag None (Read c.args.what.from c.args.what.reader) ≡ Left (Got c.in-Ok.item) mid =
-    subst (λ (x : LedgeredView). op_on x.held.logged c.in-Some.tag None (Read c.args.what.from c.args.what.reader)
+    subst (λ (x : LineChanView). op_on x.held.logged c.in-Some.tag None (Read c.args.what.from c.args.what.reader)
     ≡ Left (Got c.in-Ok.item) mid) same
     (ok_so c.in_ok-item.field-0 c.in-Ok.item _ c.in-Ok.is c.in_ok-item.ensures.taken) in
     let there : c.log_len-place-2.new.self ≡ target = c.log_len-place-2.ensures.same ∙ c.stamp-2.ensures.same in
     let unchanged : c.commit_write.new.target.held.logged ≡ t =
     (none_so c.in_ok-act.field-0 c.in_default-2.is c.in_ok-act.ensures.left).0
-    ∙ ap (λ (x : LedgeredView). x.held.logged) there in
+    ∙ ap (λ (x : LineChanView). x.held.logged) there in
     write_retries c.args.tag c.in-Some.tag c.args.what.from c.args.what.reader c.args.what.to c.in-Ok.item s mid t
     c.args.self.now cause c.show.ensures begins took
     (subst (λ (x : Logged). operate x.channel c.args.tag.seat None (Write c.args.what.to (Lit c.in-Ok.item.body))
@@ -108,8 +108,8 @@ returns-in_default-2-clause-retry g c cause is =
 
 pub returns-in_default-2-clause-once : goal.returns-in_default-2-clause-once
 returns-in_default-2-clause-once g c not =
-    let source : LedgeredView = c.take_both-source.result.0 in
-    let target : LedgeredView = c.take_both-source.result.1 in
+    let source : LineChanView = c.take_both-source.result.0 in
+    let target : LineChanView = c.take_both-source.result.1 in
     let s : Logged = source.held.logged in
     let t : Logged = target.held.logged in
     let most : c.max-most.result ≡ max (max c.args.tag.stamp s.stamp) t.stamp =
@@ -122,7 +122,7 @@ returns-in_default-2-clause-once g c not =
     let same : c.log_len-place.new.self ≡ source = c.log_len-place.ensures.same ∙ c.stamp.ensures.same in
     let mid : Logged = c.take_item.new.source.held.logged in
     let took : op_on s c.in-Some.tag None (Read c.args.what.from c.args.what.reader) ≡ Left (Got c.in-Ok.item) mid =
-    subst (λ (x : LedgeredView). op_on x.held.logged c.in-Some.tag None (Read c.args.what.from c.args.what.reader)
+    subst (λ (x : LineChanView). op_on x.held.logged c.in-Some.tag None (Read c.args.what.from c.args.what.reader)
     ≡ Left (Got c.in-Ok.item) mid) same
     (ok_so c.in_ok-item.field-0 c.in-Ok.item _ c.in-Ok.is c.in_ok-item.ensures.taken) in
     let there : c.log_len-place-2.new.self ≡ target = c.log_len-place-2.ensures.same ∙ c.stamp-2.ensures.same in
@@ -131,15 +131,15 @@ returns-in_default-2-clause-once g c not =
     none_so c.in_ok-act.field-0 c.in_default-2.is (c.in_ok-act.ensures.none refl) in
     write_none c.args.tag c.in-Some.tag c.args.what.from c.args.what.reader c.args.what.to c.in-Ok.item s mid t
     c.args.self.now c.show.ensures begins took
-    (subst (λ (x : LedgeredView). HasNoAct (operate x.held.logged.channel c.args.tag.seat None
+    (subst (λ (x : LineChanView). HasNoAct (operate x.held.logged.channel c.args.tag.seat None
     (Write c.args.what.to (Lit c.in-Ok.item.body)))) there
     (subst (λ n. HasNoAct (operate c.log_len-place-2.new.self.held.logged.channel n None
     (Write c.args.what.to (Lit c.in-Ok.item.body)))) (ap (λ (x : Tag). x.seat) begins.tagged) none))
 
 pub settle_read-requires-clause-ready : goal.settle_read-requires-clause-ready
 settle_read-requires-clause-ready g c =
-    let source : LedgeredView = c.take_both-source.result.0 in
-    let target : LedgeredView = c.take_both-source.result.1 in
+    let source : LineChanView = c.take_both-source.result.0 in
+    let target : LineChanView = c.take_both-source.result.1 in
     let s : Logged = source.held.logged in
     let t : Logged = target.held.logged in
     let most : c.max-most.result ≡ max (max c.args.tag.stamp s.stamp) t.stamp =
@@ -152,7 +152,7 @@ settle_read-requires-clause-ready g c =
     let same : c.log_len-place.new.self ≡ source = c.log_len-place.ensures.same ∙ c.stamp.ensures.same in
     let mid : Logged = c.take_item.new.source.held.logged in
     let took : op_on s c.in-Some.tag None (Read c.args.what.from c.args.what.reader) ≡ Left (Got c.in-Ok.item) mid =
-    subst (λ (x : LedgeredView). op_on x.held.logged c.in-Some.tag None (Read c.args.what.from c.args.what.reader)
+    subst (λ (x : LineChanView). op_on x.held.logged c.in-Some.tag None (Read c.args.what.from c.args.what.reader)
     ≡ Left (Got c.in-Ok.item) mid) same
     (ok_so c.in_ok-item.field-0 c.in-Ok.item _ c.in-Ok.is c.in_ok-item.ensures.taken) in
     ready_to_settle c.args.tag c.in-Some.tag c.args.what.from c.args.what.reader c.args.what.to c.in-Ok.item s mid t
@@ -160,8 +160,8 @@ settle_read-requires-clause-ready g c =
 
 pub returns-clause-done : goal.returns-clause-done
 returns-clause-done g c is =
-    let source : LedgeredView = c.take_both-source.result.0 in
-    let target : LedgeredView = c.take_both-source.result.1 in
+    let source : LineChanView = c.take_both-source.result.0 in
+    let target : LineChanView = c.take_both-source.result.1 in
     let s : Logged = source.held.logged in
     let t : Logged = target.held.logged in
     let most : c.max-most.result ≡ max (max c.args.tag.stamp s.stamp) t.stamp =
@@ -174,7 +174,7 @@ returns-clause-done g c is =
     let same : c.log_len-place.new.self ≡ source = c.log_len-place.ensures.same ∙ c.stamp.ensures.same in
     let mid : Logged = c.take_item.new.source.held.logged in
     let took : op_on s c.in-Some.tag None (Read c.args.what.from c.args.what.reader) ≡ Left (Got c.in-Ok.item) mid =
-    subst (λ (x : LedgeredView). op_on x.held.logged c.in-Some.tag None (Read c.args.what.from c.args.what.reader)
+    subst (λ (x : LineChanView). op_on x.held.logged c.in-Some.tag None (Read c.args.what.from c.args.what.reader)
     ≡ Left (Got c.in-Ok.item) mid) same
     (ok_so c.in_ok-item.field-0 c.in-Ok.item _ c.in-Ok.is c.in_ok-item.ensures.taken) in
     let there : c.log_len-place-2.new.self ≡ target = c.log_len-place-2.ensures.same ∙ c.stamp-2.ensures.same in
@@ -190,11 +190,11 @@ returns-clause-done g c is =
     let s' : Logged = c.settle_read.new.source.held.logged in
     let seat : c.take_both-source.new.shares ≡ shares = c.take_both-source.ensures.same in
     let wrote : IsCommittedOp kept write act t t' =
-    subst (λ (x : LedgeredView). IsCommittedOp kept write act x.held.logged t') there
+    subst (λ (x : LineChanView). IsCommittedOp kept write act x.held.logged t') there
     (some_so c.in_ok-act.field-0 act _ c.in-Some-2.is c.in_ok-act.ensures.done) in
     let counts : CountsOne t t' kept (share_at shares to) (share_at between to) =
     subst (λ (x : List SeatShareView). CountsOne t t' kept (share_at x to) (share_at between to)) seat
-    (subst (λ (x : LedgeredView). CountsOne x.held.logged t' kept (share_at c.take_both-source.new.shares to)
+    (subst (λ (x : LineChanView). CountsOne x.held.logged t' kept (share_at c.take_both-source.new.shares to)
     (share_at between to)) there
     (some_so c.in_ok-act.field-0 act _ c.in-Some-2.is c.in_ok-act.ensures.counts)) in
     let has : HasMoved c.args.tag kept from c.args.what.reader to c.in-Ok.item act s mid s' t t' shares between after =
@@ -209,9 +209,9 @@ returns-clause-done g c is =
       second = c.settle_read.ensures.others;
     } in
     let place : c.log_len-place.result ≡ length s.log =
-    c.log_len-place.ensures.value ∙ ap (λ (x : LedgeredView). length x.held.logged.log) c.stamp.ensures.same in
+    c.log_len-place.ensures.value ∙ ap (λ (x : LineChanView). length x.held.logged.log) c.stamp.ensures.same in
     let place' : c.log_len-place-2.result ≡ length t.log =
-    c.log_len-place-2.ensures.value ∙ ap (λ (x : LedgeredView). length x.held.logged.log) c.stamp-2.ensures.same in
+    c.log_len-place-2.ensures.value ∙ ap (λ (x : LineChanView). length x.held.logged.log) c.stamp-2.ensures.same in
     subst (λ (r : Receipt). IsCommittedMove c.args.tag from c.args.what.reader to shares after r)
     (sym (c.set_pair.ensures ∙ (λ j. pair_of kept
     (record { chan = from; place = place j; act = Took c.args.what.reader c.in-Ok.item })

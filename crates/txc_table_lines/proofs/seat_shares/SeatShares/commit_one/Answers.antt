@@ -7,7 +7,7 @@ use Rattle.txc_base.specs.Op.{chan_of}
 use Rattle.txc_chan.specs.Committed.{HasNoAct, IsCommittedOp, reply_to}
 use Rattle.txc_chan.specs.Logged.{Logged}
 use Rattle.txc_table_line.specs.Commit.{CountsOne}
-use Rattle.txc_table_line.specs.Ledgered.{LedgeredView}
+use Rattle.txc_table_line.specs.LineChan.{LineChanView}
 use Rattle.txc_table_line.specs.SeatShare.{SeatShareView}
 use Rattle.txc_txn.specs.declared.receipt.Receipt.{Receipt}
 use Rattle.txc_txn.proofs.Once.{none_so, some_so}
@@ -58,16 +58,16 @@ returns-in_default-clause-once g c is-false =
     found_logged _ _ (subst (λ n. IsFound (share_at c.args.self.now n) c.take_line-guard.result) c.chan-chan.ensures
     c.take_line-guard.ensures.found) in
     let most : c.max-most.result ≡ max c.args.receipt.now.tag.stamp l.stamp =
-    c.max-most.ensures ∙ ap (max c.args.receipt.now.tag.stamp) c.stamp.ensures.value in
+    c.max-most.ensures ∙ ap (max c.args.receipt.now.tag.stamp) c.stamp_and_len-stamp.ensures.stamp in
     not_worn c.args.receipt.now.tag c.args.op.now l c.args.self.now c.show.ensures found
     (subst (λ k. (is_worn c.args.receipt.now.tag.serial || is_worn k) ≡ true) most c.in_default.ensures.none)
 
 pub returns-in_default-found-clause-once : goal.returns-in_default-found-clause-once
 returns-in_default-found-clause-once g c is-false =
-    let l : Logged = c.log_len-place.new.self.held.logged in
+    let l : Logged = c.stamp_and_len-stamp.new.self.held.logged in
     let found : Found (share_at c.args.self.now (chan_of c.args.op.now)) l =
-    found_logged _ _ (subst (λ (x : LedgeredView). IsFound (share_at c.args.self.now (chan_of c.args.op.now)) x)
-    (sym (c.log_len-place.ensures.same ∙ c.stamp.ensures.same))
+    found_logged _ _ (subst (λ (x : LineChanView). IsFound (share_at c.args.self.now (chan_of c.args.op.now)) x)
+    (sym (c.stamp_and_len-stamp.ensures.same))
     (subst (λ n. IsFound (share_at c.args.self.now n) c.take_line-guard.result) c.chan-chan.ensures
     c.take_line-guard.ensures.found)) in
     no_act c.args.receipt.now.tag c.args.op.now l c.args.self.now c.show.ensures found
@@ -78,12 +78,12 @@ pub returns-clause-done : goal.returns-clause-done
 returns-clause-done g c is-true =
     let n = chan_of c.args.op.now in
     let tag = c.args.receipt.now.tag in
-    let l : Logged = c.log_len-place.new.self.held.logged in
+    let l : Logged = c.stamp_and_len-stamp.new.self.held.logged in
     let l' : Logged = c.commit-found.new.self.held.logged in
-    let guard : c.log_len-place.new.self ≡ c.take_line-guard.result =
-    c.log_len-place.ensures.same ∙ c.stamp.ensures.same in
+    let guard : c.stamp_and_len-stamp.new.self ≡ c.take_line-guard.result =
+    c.stamp_and_len-stamp.ensures.same in
     let found : Found (share_at c.args.self.now n) l =
-    found_logged _ _ (subst (λ (x : LedgeredView). IsFound (share_at c.args.self.now n) x) (sym guard)
+    found_logged _ _ (subst (λ (x : LineChanView). IsFound (share_at c.args.self.now n) x) (sym guard)
     (subst (λ k. IsFound (share_at c.args.self.now k) c.take_line-guard.result) c.chan-chan.ensures
     c.take_line-guard.ensures.found)) in
     let at : c.from.result ≡ n = search rules in
@@ -92,8 +92,8 @@ returns-clause-done g c is-true =
     let share : c.index_mut-share.result.now ≡ share_at c.args.self.now n =
     indexed _ _ _ _ _ no_share same at there c.index_mut-share.ensures.value in
     let most : c.max-most.result ≡ max tag.stamp l.stamp =
-    c.max-most.ensures ∙ ap (max tag.stamp) (c.stamp.ensures.value
-    ∙ ap (λ (x : LedgeredView). x.held.logged.stamp) (sym guard)) in
+    c.max-most.ensures ∙ ap (max tag.stamp) (c.stamp_and_len-stamp.ensures.stamp
+    ∙ ap (λ (x : LineChanView). x.held.logged.stamp) (sym guard)) in
     let some = subst (λ k. ((is_worn tag.serial || is_worn k) ≡ false)
     × (c.in-Some.tag ≡ record { seat = tag.seat; serial = tag.serial; stamp = k + 1 })) most c.in-Some.ensures.some in
     let done : IsCommittedOp c.in-Some.tag c.args.op.now c.in-Some-found.act l l' =
@@ -113,7 +113,7 @@ returns-clause-done g c is-true =
       done = done;
       counts = counts;
     }) in
-    let place : c.log_len-place.result ≡ length l.log = search rules in
+    let place : c.stamp_and_len-stamp.result.1 ≡ length l.log = search rules in
     let its : Receipt = record {
       tag = c.in-Some.tag;
       replies = reply_to c.in-Some-found.act ∷ [];
@@ -135,17 +135,17 @@ pub returns-in_default-found-clause-retry : goal.returns-in_default-found-clause
 returns-in_default-found-clause-retry g c cause is =
     let n = chan_of c.args.op.now in
     let tag = c.args.receipt.now.tag in
-    let l : Logged = c.log_len-place.new.self.held.logged in
+    let l : Logged = c.stamp_and_len-stamp.new.self.held.logged in
     let left : Logged = c.commit-found.new.self.held.logged in
-    let guard : c.log_len-place.new.self ≡ c.take_line-guard.result =
-    c.log_len-place.ensures.same ∙ c.stamp.ensures.same in
+    let guard : c.stamp_and_len-stamp.new.self ≡ c.take_line-guard.result =
+    c.stamp_and_len-stamp.ensures.same in
     let found : Found (share_at c.args.self.now n) l =
-    found_logged _ _ (subst (λ (x : LedgeredView). IsFound (share_at c.args.self.now n) x) (sym guard)
+    found_logged _ _ (subst (λ (x : LineChanView). IsFound (share_at c.args.self.now n) x) (sym guard)
     (subst (λ k. IsFound (share_at c.args.self.now k) c.take_line-guard.result) c.chan-chan.ensures
     c.take_line-guard.ensures.found)) in
     let most : c.max-most.result ≡ max tag.stamp l.stamp =
-    c.max-most.ensures ∙ ap (max tag.stamp) (c.stamp.ensures.value
-    ∙ ap (λ (x : LedgeredView). x.held.logged.stamp) (sym guard)) in
+    c.max-most.ensures ∙ ap (max tag.stamp) (c.stamp_and_len-stamp.ensures.stamp
+    ∙ ap (λ (x : LineChanView). x.held.logged.stamp) (sym guard)) in
     let rises : (is_worn tag.serial || is_worn (max tag.stamp l.stamp)) ≡ false =
     subst (λ k. (is_worn tag.serial || is_worn k) ≡ false) most c.in-Some.ensures.some.0 in
     let same : left ≡ l = (none_so c.in-Ok.found c.in_default-found.is c.in-Ok.ensures.left).0 in

@@ -26,25 +26,25 @@ or-returns-in_err-steps g t c = record {
     others = λ n no. c.steps.ensures.runs.others n no ∙ ap (λ f. f n) c.loop-branch.invariant.same;
     grows = subst (λ (m : Map). AllGrow c.args.self.now.tag m (g.H.Hold.chans c.steps.new.hold))
         c.loop-branch.invariant.same c.steps.ensures.runs.grows;
-    keeps = keeps_as c.loop-branch.path c.args.path.now c.steps.new.path c.loop-branch.invariant.replies
+    keeps = keeps_as c.loop-branch.trace c.args.trace.now c.steps.new.trace c.loop-branch.invariant.replies
         c.loop-branch.invariant.deeds c.steps.ensures.runs.keeps;
     ok = IfOk-from_err c.from_residual.result _ c.from_residual.ensures.0;
     err =
-        let same : state_of (g.H.Hold.chans c.loop-branch.hold) c.loop-branch.path
-        ≡ state_of (g.H.Hold.chans c.args.hold.now) c.args.path.now =
-        states_equal _ _ c.loop-branch.path c.args.path.now c.loop-branch.invariant.same c.loop-branch.invariant.last
+        let same : state_of (g.H.Hold.chans c.loop-branch.hold) c.loop-branch.trace
+        ≡ state_of (g.H.Hold.chans c.args.hold.now) c.args.trace.now =
+        states_equal _ _ c.loop-branch.trace c.args.trace.now c.loop-branch.invariant.same c.loop-branch.invariant.last
         c.loop-branch.invariant.replies c.loop-branch.invariant.deeds in
         let here : c.in_err-steps.field-0.0 ≢ NoMemory
         → steps_in c.args.self.now.tag c.branch-item.result
-        (state_of (g.H.Hold.chans c.loop-branch.hold) c.loop-branch.path) ≡ Aborted c.in_err-steps.field-0.0 =
+        (state_of (g.H.Hold.chans c.loop-branch.hold) c.loop-branch.trace) ≡ Aborted c.in_err-steps.field-0.0 =
         rw (← c.as_slice.ensures) c.in_err-steps.ensures.runs.err in
         let halted : c.in_err-steps.field-0.0 ≢ NoMemory
         → alternatives c.args.self.now.tag Asked c.args.branches.now
-        (state_of (g.H.Hold.chans c.args.hold.now) c.args.path.now) ≡ Aborted c.in_err-steps.field-0.0 =
+        (state_of (g.H.Hold.chans c.args.hold.now) c.args.trace.now) ≡ Aborted c.in_err-steps.field-0.0 =
         λ ne. failed c.args.self.now.tag c.loop-branch.cause c.in_err-steps.field-0.0 c.args.branches.now
         c.loop-branch.branch-index c.branch-item.result
-        (state_of (g.H.Hold.chans c.loop-branch.hold) c.loop-branch.path)
-        (state_of (g.H.Hold.chans c.args.hold.now) c.args.path.now) c.loop-branch-test.true c.branch-item.is same
+        (state_of (g.H.Hold.chans c.loop-branch.hold) c.loop-branch.trace)
+        (state_of (g.H.Hold.chans c.args.hold.now) c.args.trace.now) c.loop-branch-test.true c.branch-item.is same
         c.loop-branch.invariant.rest (here ne) in
         search rules;
   };
@@ -63,15 +63,15 @@ or-loop-branch-preserved g t c = record {
   replies = grind (arith, common_steps);
   deeds = grind (arith, common_steps);
   rest =
-      let same : state_of (g.H.Hold.chans c.loop-branch.hold) c.loop-branch.path
-      ≡ state_of (g.H.Hold.chans c.args.hold.now) c.args.path.now =
-      states_equal _ _ c.loop-branch.path c.args.path.now c.loop-branch.invariant.same c.loop-branch.invariant.last
+      let same : state_of (g.H.Hold.chans c.loop-branch.hold) c.loop-branch.trace
+      ≡ state_of (g.H.Hold.chans c.args.hold.now) c.args.trace.now =
+      states_equal _ _ c.loop-branch.trace c.args.trace.now c.loop-branch.invariant.same c.loop-branch.invariant.last
       c.loop-branch.invariant.replies c.loop-branch.invariant.deeds in
       let again : steps_in c.args.self.now.tag c.branch-item.result
-      (state_of (g.H.Hold.chans c.loop-branch.hold) c.loop-branch.path) ≡ Again c.in-Again.why = search rules in
-      tried c.args.self.now.tag c.loop-branch.cause c.in-Again.why c.args.branches.now c.loop-branch.branch-index
-      c.branch-item.result (state_of (g.H.Hold.chans c.loop-branch.hold) c.loop-branch.path)
-      (state_of (g.H.Hold.chans c.args.hold.now) c.args.path.now) c.loop-branch-test.true c.branch-item.is same
+      (state_of (g.H.Hold.chans c.loop-branch.hold) c.loop-branch.trace) ≡ Again c.in-Retry.why = search rules in
+      tried c.args.self.now.tag c.loop-branch.cause c.in-Retry.why c.args.branches.now c.loop-branch.branch-index
+      c.branch-item.result (state_of (g.H.Hold.chans c.loop-branch.hold) c.loop-branch.trace)
+      (state_of (g.H.Hold.chans c.args.hold.now) c.args.trace.now) c.loop-branch-test.true c.branch-item.is same
       c.loop-branch.invariant.rest again;
 }
 
@@ -132,37 +132,37 @@ steps-returns-in_err-step g t c = record {
     others = λ n no. c.step.ensures.runs.others n no ∙ c.loop-step.invariant.others n no;
     grows = grow_on c.args.self.now.tag (g.H.Hold.chans c.args.hold.now) (g.H.Hold.chans c.loop-step.hold)
         (g.H.Hold.chans c.step.new.hold) c.loop-step.invariant.grows c.step.ensures.runs.grows;
-    keeps = keeps_on c.args.path.now c.loop-step.path c.step.new.path c.loop-step.invariant.keeps
+    keeps = keeps_on c.args.trace.now c.loop-step.trace c.step.new.trace c.loop-step.invariant.keeps
         c.step.ensures.runs.keeps;
     ok = IfOk-from_err c.from_residual.result _ c.from_residual.ensures.0;
     err =
         let halted : c.in_err-step.field-0.0 ≢ NoMemory
-        → steps_in c.args.self.now.tag c.args.steps.now (state_of (g.H.Hold.chans c.args.hold.now) c.args.path.now)
+        → steps_in c.args.self.now.tag c.args.steps.now (state_of (g.H.Hold.chans c.args.hold.now) c.args.trace.now)
         ≡ Aborted c.in_err-step.field-0.0 =
         λ ne. step_halt c.args.self.now.tag c.args.steps.now c.loop-step.step-index c.step-item.result
-        (state_of (g.H.Hold.chans c.args.hold.now) c.args.path.now)
-        (state_of (g.H.Hold.chans c.loop-step.hold) c.loop-step.path) c.in_err-step.field-0.0 c.loop-step-test.true
+        (state_of (g.H.Hold.chans c.args.hold.now) c.args.trace.now)
+        (state_of (g.H.Hold.chans c.loop-step.hold) c.loop-step.trace) c.in_err-step.field-0.0 c.loop-step-test.true
         c.step-item.is c.loop-step.invariant.rest (c.in_err-step.ensures.runs.err ne) in
         search rules;
   };
 }
 
-pub steps-returns-in-Again : goal.steps-returns-in-Again
-steps-returns-in-Again g t c = record {
+pub steps-returns-in-Retry : goal.steps-returns-in-Retry
+steps-returns-in-Retry g t c = record {
   held = λ n h. c.step.ensures.held n (c.loop-step.invariant.held n h);
   fixed = c.step.ensures.fixed ∙ c.loop-step.invariant.fixed;
   runs = record {
     others = λ n no. c.step.ensures.runs.others n no ∙ c.loop-step.invariant.others n no;
     grows = grow_on c.args.self.now.tag (g.H.Hold.chans c.args.hold.now) (g.H.Hold.chans c.loop-step.hold)
         (g.H.Hold.chans c.step.new.hold) c.loop-step.invariant.grows c.step.ensures.runs.grows;
-    keeps = keeps_on c.args.path.now c.loop-step.path c.step.new.path c.loop-step.invariant.keeps
+    keeps = keeps_on c.args.trace.now c.loop-step.trace c.step.new.trace c.loop-step.invariant.keeps
         c.step.ensures.runs.keeps;
     ok =
         let again : step_in c.args.self.now.tag c.step-item.result
-        (state_of (g.H.Hold.chans c.loop-step.hold) c.loop-step.path) ≡ Again c.in-Again.cause = search rules in
+        (state_of (g.H.Hold.chans c.loop-step.hold) c.loop-step.trace) ≡ Again c.in-Retry.cause = search rules in
         step_again c.args.self.now.tag c.args.steps.now c.loop-step.step-index c.step-item.result
-        (state_of (g.H.Hold.chans c.args.hold.now) c.args.path.now)
-        (state_of (g.H.Hold.chans c.loop-step.hold) c.loop-step.path) c.in-Again.cause c.loop-step-test.true
+        (state_of (g.H.Hold.chans c.args.hold.now) c.args.trace.now)
+        (state_of (g.H.Hold.chans c.loop-step.hold) c.loop-step.trace) c.in-Retry.cause c.loop-step-test.true
         c.step-item.is c.loop-step.invariant.rest again;
     err = tt;
   };
@@ -175,16 +175,16 @@ steps-loop-step-preserved g t c = record {
   others = λ n no. c.step.ensures.runs.others n no ∙ c.loop-step.invariant.others n no;
   grows = grow_on c.args.self.now.tag (g.H.Hold.chans c.args.hold.now) (g.H.Hold.chans c.loop-step.hold)
       (g.H.Hold.chans c.step.new.hold) c.loop-step.invariant.grows c.step.ensures.runs.grows;
-  keeps = keeps_on c.args.path.now c.loop-step.path c.step.new.path c.loop-step.invariant.keeps
+  keeps = keeps_on c.args.trace.now c.loop-step.trace c.step.new.trace c.loop-step.invariant.keeps
       c.step.ensures.runs.keeps;
   rest =
       let kept : step_in c.args.self.now.tag c.step-item.result
-      (state_of (g.H.Hold.chans c.loop-step.hold) c.loop-step.path)
-      ≡ Kept (state_of (g.H.Hold.chans c.step.new.hold) c.step.new.path) = search rules in
+      (state_of (g.H.Hold.chans c.loop-step.hold) c.loop-step.trace)
+      ≡ Kept (state_of (g.H.Hold.chans c.step.new.hold) c.step.new.trace) = search rules in
       step_done c.args.self.now.tag c.args.steps.now c.loop-step.step-index c.step-item.result
-      (state_of (g.H.Hold.chans c.args.hold.now) c.args.path.now)
-      (state_of (g.H.Hold.chans c.loop-step.hold) c.loop-step.path)
-      (state_of (g.H.Hold.chans c.step.new.hold) c.step.new.path) c.loop-step-test.true c.step-item.is
+      (state_of (g.H.Hold.chans c.args.hold.now) c.args.trace.now)
+      (state_of (g.H.Hold.chans c.loop-step.hold) c.loop-step.trace)
+      (state_of (g.H.Hold.chans c.step.new.hold) c.step.new.trace) c.loop-step-test.true c.step-item.is
       c.loop-step.invariant.rest kept;
 }
 
@@ -196,10 +196,11 @@ or-returns g t c = record {
     others = λ n none. ap (λ f. f n) c.loop-branch.invariant.same;
     grows = grow_none c.args.self.now.tag (g.H.Hold.chans c.args.hold.now) (g.H.Hold.chans c.loop-branch.hold)
         c.loop-branch.invariant.same;
-    keeps = keeps_same c.args.path.now c.loop-branch.path c.loop-branch.invariant.replies c.loop-branch.invariant.deeds;
+    keeps = keeps_same c.args.trace.now c.loop-branch.trace c.loop-branch.invariant.replies
+        c.loop-branch.invariant.deeds;
     ok = c.loop-branch.invariant.rest
         ∙ at_drop_all (λ bs. alternatives c.args.self.now.tag c.loop-branch.cause bs
-        (state_of (g.H.Hold.chans c.args.hold.now) c.args.path.now)) c.args.branches.now c.loop-branch.branch-index
+        (state_of (g.H.Hold.chans c.args.hold.now) c.args.trace.now)) c.args.branches.now c.loop-branch.branch-index
         (omega arith);
     err = tt;
   };
@@ -217,16 +218,16 @@ or-returns-in-Done g t c = record {
     others = λ n no. c.steps.ensures.runs.others n no ∙ ap (λ f. f n) c.loop-branch.invariant.same;
     grows = subst (λ (m : Map). AllGrow c.args.self.now.tag m (g.H.Hold.chans c.steps.new.hold))
         c.loop-branch.invariant.same c.steps.ensures.runs.grows;
-    keeps = keeps_as c.loop-branch.path c.args.path.now c.steps.new.path c.loop-branch.invariant.replies
+    keeps = keeps_as c.loop-branch.trace c.args.trace.now c.steps.new.trace c.loop-branch.invariant.replies
         c.loop-branch.invariant.deeds c.steps.ensures.runs.keeps;
     ok = let kept : steps_in c.args.self.now.tag c.branch-item.result
-        (state_of (g.H.Hold.chans c.loop-branch.hold) c.loop-branch.path)
-        ≡ Kept (state_of (g.H.Hold.chans c.steps.new.hold) c.steps.new.path) = search rules in
+        (state_of (g.H.Hold.chans c.loop-branch.hold) c.loop-branch.trace)
+        ≡ Kept (state_of (g.H.Hold.chans c.steps.new.hold) c.steps.new.trace) = search rules in
         taken c.args.self.now.tag c.loop-branch.cause c.args.branches.now c.loop-branch.branch-index
-        c.branch-item.result (state_of (g.H.Hold.chans c.loop-branch.hold) c.loop-branch.path)
-        (state_of (g.H.Hold.chans c.args.hold.now) c.args.path.now)
-        (state_of (g.H.Hold.chans c.steps.new.hold) c.steps.new.path) c.loop-branch-test.true c.branch-item.is
-        (states_equal _ _ c.loop-branch.path c.args.path.now c.loop-branch.invariant.same c.loop-branch.invariant.last
+        c.branch-item.result (state_of (g.H.Hold.chans c.loop-branch.hold) c.loop-branch.trace)
+        (state_of (g.H.Hold.chans c.args.hold.now) c.args.trace.now)
+        (state_of (g.H.Hold.chans c.steps.new.hold) c.steps.new.trace) c.loop-branch-test.true c.branch-item.is
+        (states_equal _ _ c.loop-branch.trace c.args.trace.now c.loop-branch.invariant.same c.loop-branch.invariant.last
         c.loop-branch.invariant.replies c.loop-branch.invariant.deeds) c.loop-branch.invariant.rest kept;
     err = tt;
   };
@@ -239,7 +240,7 @@ step-returns-in-Retry g t c = record {
   runs = record {
     others = λ n none. refl;
     grows = λ n. grows_refl c.args.self.now.tag (g.H.Hold.chans c.args.hold.now n);
-    keeps = keeps_refl c.args.path.now;
+    keeps = keeps_refl c.args.trace.now;
     ok = rw (c.in-Retry.is, step_in-Retry) refl;
     err = tt;
   };
@@ -255,7 +256,7 @@ steps-returns g t c = record {
     keeps = c.loop-step.invariant.keeps;
     ok = c.loop-step.invariant.rest
         ∙ at_drop_all (λ xs. steps_in c.args.self.now.tag xs
-        (state_of (g.H.Hold.chans c.loop-step.hold) c.loop-step.path)) c.args.steps.now c.loop-step.step-index
+        (state_of (g.H.Hold.chans c.loop-step.hold) c.loop-step.trace)) c.args.steps.now c.loop-step.step-index
         (omega arith);
     err = tt;
   };
@@ -288,7 +289,7 @@ steps-loop-step-init g t c = record {
   held = λ n h. h;
   others = λ n no. refl;
   grows = λ n. grows_refl c.args.self.now.tag (g.H.Hold.chans c.args.hold.now n);
-  keeps = keeps_refl c.args.path.now;
+  keeps = keeps_refl c.args.trace.now;
   rest = refl;
 }
 

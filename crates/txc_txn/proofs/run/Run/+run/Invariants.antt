@@ -1,7 +1,7 @@
 use Rattle.std.proofs.Common.{◌≡◌, ℕ, ◌+◌, ◌*◌, drop}
 use Rattle.txc_base.specs.declared.cause.Cause.TheVariants.{Asked}
 use Rattle.txc_txn.specs.Growth.{AllGrow, SameOutside}
-use Rattle.txc_txn.specs.Run.{KeepsPath, alternatives, state_of}
+use Rattle.txc_txn.specs.Run.{KeepsTrace, alternatives, state_of}
 use Rattle.txc_txn.specs.Transaction.{steps_in}
 use Rattle.txc_txn.proofs.run.Run.+run.Given as goal
 
@@ -10,12 +10,12 @@ invariant-or-loop-branch g l = record {
   fixed : g.H.Hold.fixed l.hold ≡ g.H.Hold.fixed l.fn.hold;
   held : (n : ℕ) → g.H.Hold.IsHeld l.fn.hold n → g.H.Hold.IsHeld l.hold n;
   same : g.H.Hold.chans l.hold ≡ g.H.Hold.chans l.fn.hold;
-  last : l.path.last ≡ l.initial.path.last;
-  replies : l.path.replies.items ≡ l.initial.path.replies.items;
-  deeds : l.path.deeds.items ≡ l.initial.path.deeds.items;
-  rest : alternatives l.self.tag Asked l.branches (state_of (g.H.Hold.chans l.fn.hold) l.initial.path)
+  last : l.trace.last ≡ l.initial.trace.last;
+  replies : l.trace.replies.items ≡ l.initial.trace.replies.items;
+  deeds : l.trace.deeds.items ≡ l.initial.trace.deeds.items;
+  rest : alternatives l.self.tag Asked l.branches (state_of (g.H.Hold.chans l.fn.hold) l.initial.trace)
       ≡ alternatives l.self.tag l.cause (drop l.branch-index l.branches)
-      (state_of (g.H.Hold.chans l.fn.hold) l.initial.path);
+      (state_of (g.H.Hold.chans l.fn.hold) l.initial.trace);
 }
 
 abbrev pub invariant-steps-loop-step : goal.invariant-steps-loop-step
@@ -24,9 +24,9 @@ invariant-steps-loop-step g l = record {
   held : (n : ℕ) → g.H.Hold.IsHeld l.initial.hold n → g.H.Hold.IsHeld l.hold n;
   others : SameOutside l.self.declared.now (g.H.Hold.chans l.initial.hold) (g.H.Hold.chans l.hold);
   grows : AllGrow l.self.tag (g.H.Hold.chans l.initial.hold) (g.H.Hold.chans l.hold);
-  keeps : KeepsPath l.initial.path l.path;
-  rest : steps_in l.self.tag l.steps (state_of (g.H.Hold.chans l.initial.hold) l.initial.path)
-      ≡ steps_in l.self.tag (drop l.step-index l.steps) (state_of (g.H.Hold.chans l.hold) l.path);
+  keeps : KeepsTrace l.initial.trace l.trace;
+  rest : steps_in l.self.tag l.steps (state_of (g.H.Hold.chans l.initial.hold) l.initial.trace)
+      ≡ steps_in l.self.tag (drop l.step-index l.steps) (state_of (g.H.Hold.chans l.hold) l.trace);
 }
 
 abbrev pub decreases-step : goal.decreases-step

@@ -34,17 +34,17 @@ returns-clause-goes_on g c began ops opened = elim c.match-apply.branch [
         held = c.self.inside.plain;
         kinds = c.self.inside.kinds.items;
         txn = c.self.inside.txn;
-        points = c.self.inside.points.items;
+        savepoints = c.self.inside.savepoints.items;
       })
       (record {
         held = c.apply.new.hold;
         kinds = c.self.inside.kinds.items;
         txn = c.apply.new.self;
-        points = c.self.inside.points.items;
+        savepoints = c.self.inside.savepoints.items;
       })
       (subst (λ (x : DomainChannels). IsOpenAt began ops x) (sym c.self.view_is) opened)
       (w.in-Ok.ensures.ok
-      ∙ ap (λ flow. ending_of flow (state_of (chan_in c.apply.new.hold) c.apply.new.self.path)) done)
+      ∙ ap (λ flow. ending_of flow (state_of (chan_in c.apply.new.hold) c.apply.new.self.trace)) done)
       c.apply.ensures.tag
       (c.apply.ensures.marked [] began
       (subst (λ (x : DomainChannels). IsOpenAt began ops x) (sym c.self.view_is) opened).marked))
@@ -52,12 +52,12 @@ returns-clause-goes_on g c began ops opened = elim c.match-apply.branch [
 ]
 
 pub returns-clause-saved : goal.returns-clause-saved
-returns-clause-saved g c point at path saved = still_saved point at path
+returns-clause-saved g c savepoint at trace saved = still_saved savepoint at trace
     (record {
       held = c.self.inside.plain;
       kinds = c.self.inside.kinds.items;
       txn = c.self.inside.txn;
-      points = c.self.inside.points.items;
+      savepoints = c.self.inside.savepoints.items;
     })
-    _ c.apply.ensures.keeps (c.apply.ensures.marked point.marks.items at)
-    (subst (λ (x : DomainChannels). IsSavedAt point at path x) (sym c.self.view_is) saved)
+    _ c.apply.ensures.keeps (c.apply.ensures.marked savepoint.marks.items at)
+    (subst (λ (x : DomainChannels). IsSavedAt savepoint at trace x) (sym c.self.view_is) saved)

@@ -29,5 +29,5 @@ invariant_of-self g c =
 
 pub returns-clause-receipt : goal.returns-clause-receipt
 returns-clause-receipt g c m = c.commit.ensures.receipt m
-    ∙ ap (λ (txn : OpenTransaction). receipt_of txn.tag (state_of m txn.path))
+    ∙ ap (λ (txn : OpenTransaction). receipt_of txn.tag (state_of m txn.trace))
     (c.replace.ensures.value ∙ ap (λ (x : DomainChannels). x.txn) c.self.view_is)

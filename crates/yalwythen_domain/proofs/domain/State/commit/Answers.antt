@@ -17,7 +17,7 @@ returns g c = rw (sym c.self.view_is) (record {
   clock = λ is_open. c.note.ensures.clock
       ∙ ap (λ (receipt : Receipt). max c.self.inside.clock receipt.tag.stamp)
       (c.commit-receipt.ensures.receipt (chan_in c.self.inside.channels.held));
-  phase = λ is_open. search rules;
+  status = λ is_open. search rules;
   kinds = search rules;
   refused = λ no. search rules;
 })

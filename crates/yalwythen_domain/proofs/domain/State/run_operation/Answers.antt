@@ -9,21 +9,21 @@ returns-in-Ok-Done-clause-ok g c = rw (sym c.self.view_is) (record {
   faulty = c.apply-ran.ensures.faulty;
   answered = λ known. search rules;
   memory = λ refused. absurd (c.last_reply.ensures.code refused);
-  phase = c.phase_after-self-inside.ensures;
+  status = c.status_after-self-inside.ensures;
   marked = c.apply-ran.ensures.marked;
   goes_on = c.apply-ran.ensures.goes_on;
   saved = c.apply-ran.ensures.saved;
   rest = (c.apply-ran.ensures.rest.0, c.apply-ran.ensures.rest.1, c.apply-ran.ensures.rest.2, refl, refl, refl);
 })
 
-pub returns-in-Ok-Again-clause-ok : goal.returns-in-Ok-Again-clause-ok
-returns-in-Ok-Again-clause-ok g c = rw (sym c.self.view_is) (record {
+pub returns-in-Ok-Retry-clause-ok : goal.returns-in-Ok-Retry-clause-ok
+returns-in-Ok-Retry-clause-ok g c = rw (sym c.self.view_is) (record {
   result = c.apply-ran.result;
   applied = c.apply-ran.ensures.applied;
   faulty = c.apply-ran.ensures.faulty;
   answered = λ known. search rules;
   memory = λ refused. search rules;
-  phase = c.phase_after-self-inside.ensures;
+  status = c.status_after-self-inside.ensures;
   marked = c.apply-ran.ensures.marked;
   goes_on = c.apply-ran.ensures.goes_on;
   saved = c.apply-ran.ensures.saved;
@@ -31,14 +31,14 @@ returns-in-Ok-Again-clause-ok g c = rw (sym c.self.view_is) (record {
 })
 
 pub returns-in-Err-clause-ok : goal.returns-in-Err-clause-ok
-returns-in-Err-clause-ok g c = both_ok c.said_of_error.result _ _ _ c.said_of_error.ensures.said
-    c.said_of_error.ensures.code (λ said answered code. rw (sym c.self.view_is) (record {
+returns-in-Err-clause-ok g c = both_ok c.response_of_error.result _ _ _ c.response_of_error.ensures.response
+    c.response_of_error.ensures.code (λ response answered code. rw (sym c.self.view_is) (record {
       result = c.apply-ran.result;
       applied = c.apply-ran.ensures.applied;
       faulty = c.apply-ran.ensures.faulty;
       answered = λ known. search rules;
       memory = λ refused. absurd (code.1 refused);
-      phase = c.phase_after-self-inside.ensures;
+      status = c.status_after-self-inside.ensures;
       marked = c.apply-ran.ensures.marked;
       goes_on = c.apply-ran.ensures.goes_on;
       saved = c.apply-ran.ensures.saved;
@@ -46,14 +46,14 @@ returns-in-Err-clause-ok g c = both_ok c.said_of_error.result _ _ _ c.said_of_er
     }))
 
 pub returns-in-Err-clause-err : goal.returns-in-Err-clause-err
-returns-in-Err-clause-err g c = then_on_err c.said_of_error.result _ _ c.said_of_error.ensures.memory
+returns-in-Err-clause-err g c = then_on_err c.response_of_error.result _ _ c.response_of_error.ensures.memory
     (λ stopped. rw (sym c.self.view_is) (record {
       result = c.apply-ran.result;
       applied = c.apply-ran.ensures.applied;
       faulty = c.apply-ran.ensures.faulty;
       answered = λ known. absurd (known refl);
       memory = λ refused. search rules;
-      phase = c.phase_after-self-inside.ensures;
+      status = c.status_after-self-inside.ensures;
       marked = c.apply-ran.ensures.marked;
       goes_on = c.apply-ran.ensures.goes_on;
       saved = c.apply-ran.ensures.saved;

@@ -7,7 +7,8 @@ use Rattle.yalwythen_work.proofs.plans.Plans.note.Goals as goal
 
 pub returns-then-self-clause-kept : goal.returns-then-self-clause-kept
 returns-then-self-clause-kept c =
-    let notes : c.args.self.now.notes ≡ true = sym (ap (λ (p : PlansView). p.notes) c.self.view_is) ∙ c.if-self.true in
+    let audited : c.args.self.now.audited ≡ true = sym (ap (λ (p : PlansView). p.audited) c.self.view_is)
+    ∙ c.if-self.true in
     let number : c.len-number.result ≡ length c.self.inside.once.items = search rules in
     (λ j. map (plan_of c.self.inside.prepared.items (c.push_reserved.ensures.items j))
     (c.push_reserved-then-self.ensures.items j))
@@ -16,4 +17,4 @@ returns-then-self-clause-kept c =
     ∙ one_more_once c.self.inside.prepared.items c.self.inside.once.items c.args.plan c.self.inside.kept.items
     c.self.invariant
     ∙ ap (λ (ps : List CheckedView). ps ++ c.args.plan ∷ []) (ap (λ (p : PlansView). p.kept) c.self.view_is)
-    ∙ ap (λ (b : Bool). noted b c.args.self.now.kept c.args.plan) (sym notes)
+    ∙ ap (λ (b : Bool). noted b c.args.self.now.kept c.args.plan) (sym audited)

@@ -23,8 +23,8 @@ invariant_of-self-2 g c = record {
   back = record {
     number = c.self.invariant.back.number;
     lines = c.self.invariant.back.lines;
-    notes = c.prepare.ensures.notes ∙ c.self.invariant.back.notes;
+    audited = c.prepare.ensures.audited ∙ c.self.invariant.back.audited;
     noted = λ is.
-        c.prepare.ensures.kept ∙ c.self.invariant.back.noted (sym c.prepare.ensures.notes ∙ is);
+        c.prepare.ensures.kept ∙ c.self.invariant.back.noted (sym c.prepare.ensures.audited ∙ is);
   };
 }

@@ -29,13 +29,15 @@ returns-in_err-number-clause-failed g c =
     rw (p.1, p.2, stalled.1) (stalls table seat after c.self.inside.plans c.args.steps.items c.in_ok-plan.plan stalled.0
     c.args.self.now c.self.view_is c.in_ok-plan.ensures.steps c.in_ok-plan.ensures.checked found)
 
-pub returns-clause-asked : goal.returns-clause-asked
-returns-clause-asked g c =
+pub returns-clause-committed : goal.returns-clause-committed
+returns-clause-committed g c =
     let table = c.self.inside.table.now in let seat = c.self.inside.seat in let after = c.transact.new.seat in
     let found = subst (λ (t : Tried). IsTriedAt (decls_of table.lines) seat c.in_ok-plan.plan t after)
     c.in_ok-number.ensures.kept c.in_ok-ended.ensures.outcome.returned in
     asks table seat after c.self.inside.plans c.note.new.self c.args.steps.items c.in_ok-plan.plan
     (Tried.Kept c.in_ok-number.number) c.args.self.now c.self.view_is c.in_ok-plan.ensures.steps
     c.in_ok-plan.ensures.checked
-    (c.note.ensures.kept ∙ (λ i. noted (c.ready.ensures.same.notes i) (c.ready.ensures.same.kept i) c.in_ok-plan.plan))
-    (c.note.ensures.notes ∙ c.ready.ensures.same.notes) (c.note.ensures.prepared ∙ c.ready.ensures.same.prepared) found
+    (c.note.ensures.kept ∙ (λ i. noted (c.ready.ensures.same.audited i) (c.ready.ensures.same.kept i)
+    c.in_ok-plan.plan))
+    (c.note.ensures.audited ∙ c.ready.ensures.same.audited) (c.note.ensures.prepared ∙ c.ready.ensures.same.prepared)
+    found

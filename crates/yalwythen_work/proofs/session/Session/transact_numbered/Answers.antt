@@ -1,15 +1,15 @@
 use Rattle.std.proofs.Common.{◌∙◌, refl, subst}
 use Rattle.std.proofs.lemmas.Option.{get_or_from_slice_get}
 use Rattle.std.proofs.lemmas.Result.{err_from_is_err_and}
-use Rattle.txc_table_audit.specs.Turns.{no_plan}
+use Rattle.txc_table_audit.specs.ReceiptKeys.{no_plan}
 use Rattle.yalwythen_work.specs.Plans.{noted}
 use Rattle.yalwythen_work.proofs.Asking.{IsTriedAt, asks, is_there, stalls, stops}
 use Rattle.txc_table.specs.Table.{decls_of}
 use Rattle.txc_table.specs.declared.tried.Tried.{Tried}
 use Rattle.yalwythen_work.proofs.session.Session.transact_numbered.Goals as goal
 
-pub returns-clause-asked : goal.returns-clause-asked
-returns-clause-asked g c =
+pub returns-clause-committed : goal.returns-clause-committed
+returns-clause-committed g c =
     let table = c.self.inside.table.now in let seat = c.self.inside.seat in let after = c.transact.new.seat in
     let plan = c.in-Some.plan.now in
     let found = subst (λ (t : Tried). IsTriedAt (decls_of table.lines) seat plan t after)
@@ -20,10 +20,10 @@ returns-clause-asked g c =
       asks table seat after c.self.inside.plans c.note_prepared.new.self plan.steps plan
           (Tried.Kept c.in_ok-receipt.receipt) c.args.self.now c.self.view_is refl c.show.ensures
           (c.note_prepared.ensures.kept
-          ∙ (λ i. noted (c.reserve_prepared.ensures.notes i) (c.reserve_prepared.ensures.kept i)
+          ∙ (λ i. noted (c.reserve_prepared.ensures.audited i) (c.reserve_prepared.ensures.kept i)
           (get_or_from_slice_get c.reserve_prepared.new.self.prepared c.args.number plan no_plan c.in-Some.ensures.some
           i)))
-          (c.note_prepared.ensures.notes ∙ c.reserve_prepared.ensures.notes)
+          (c.note_prepared.ensures.audited ∙ c.reserve_prepared.ensures.audited)
           (c.note_prepared.ensures.prepared ∙ c.reserve_prepared.ensures.prepared) found,
     )
 

@@ -1,6 +1,6 @@
 use Rattle.std.proofs.Common.{◌∙◌}
 use Rattle.std.proofs.lemmas.Result.{err_from_is_err_and}
-use Rattle.yalwythen_work.specs.Asked.{kept_after}
+use Rattle.yalwythen_work.specs.Committed.{kept_after}
 use Rattle.yalwythen_work.proofs.Asking.{asks, stops}
 use Rattle.yalwythen_work.proofs.Unready.{unready}
 use Rattle.yalwythen_work.proofs.session.Session.transact_until.Goals as goal
@@ -20,9 +20,9 @@ returns-in_err-tried-clause-failed g c =
 pub returns-clause-tried : goal.returns-clause-tried
 returns-clause-tried g c =
     asks c.self.inside.table.now c.self.inside.seat c.transact_until.new.seat c.self.inside.plans
-    c.note_tried.new.plans c.args.steps.items c.in_ok-plan.plan c.in_ok-tried.tried c.args.self.now c.self.view_is
+    c.note_if_kept.new.plans c.args.steps.items c.in_ok-plan.plan c.in_ok-tried.tried c.args.self.now c.self.view_is
     c.in_ok-plan.ensures.steps c.in_ok-plan.ensures.checked
-    (c.note_tried.ensures.kept ∙ (λ i. kept_after (c.ready.ensures.same.notes i) (c.ready.ensures.same.kept i)
+    (c.note_if_kept.ensures.kept ∙ (λ i. kept_after (c.ready.ensures.same.audited i) (c.ready.ensures.same.kept i)
     c.in_ok-plan.plan c.in_ok-tried.tried))
-    (c.note_tried.ensures.notes ∙ c.ready.ensures.same.notes)
-    (c.note_tried.ensures.prepared ∙ c.ready.ensures.same.prepared) c.in_ok-tried.ensures.outcome.returned
+    (c.note_if_kept.ensures.audited ∙ c.ready.ensures.same.audited)
+    (c.note_if_kept.ensures.prepared ∙ c.ready.ensures.same.prepared) c.in_ok-tried.ensures.outcome.returned

@@ -8,12 +8,12 @@ use Rattle.txc_table_seat.specs.Seated.{next_tag}
 use Rattle.txc_txn.specs.Maps.{Map, kinds_of}
 use Rattle.txc_txn.specs.Plain.{chan_in}
 use Rattle.txc_txn.specs.Transaction.{Again, Aborted, Kept, State, transaction}
-use Rattle.txc_table_line.specs.Ledgered.{LedgeredView}
+use Rattle.txc_table_line.specs.LineChan.{LineChanView}
 use Rattle.txc_table_lines.specs.Lines.{line_ids}
 use Rattle.txc_table_lines.specs.Locked.{AreClean, helds_of, lines_of}
 use Rattle.txc_table_lines.specs.OneOperation.{AreKnown}
 use Rattle.txc_table.specs.IdleTableView.{IdleTableView}
-use Rattle.txc_table.specs.Seat.{LeftSeatView, seen_in}
+use Rattle.txc_table.specs.Seat.{DepartedSeatView, seen_in}
 use Rattle.txc_table.specs.Table.{TableLines, line_decls, decls_of, table_lines}
 use Rattle.txc_table.specs.Outcome.{AreLawful}
 use Rattle.txc_table.proofs.Gathering.{as_many}
@@ -24,7 +24,7 @@ use Rattle.txc_table.proofs.table.idle.IdleTable.cause_to_retry.Goals as goal
 
 pub cause_to_retry-requires : goal.cause_to_retry-requires
 cause_to_retry-requires g c =
-    let channels : List LedgeredView = c.self.inside.locked.lines in
+    let channels : List LineChanView = c.self.inside.locked.lines in
     let kinds : c.args.self.now.table.kinds ≡ c.as_slice.result.now =
     sym (c.as_slice.ensures ∙ ap (λ (i : IdleTableView). i.table.kinds) c.self.view_is) in
     let fits : Fits (slice_get c.as_slice.result.now) c.args.checked.now.steps =
@@ -32,7 +32,7 @@ cause_to_retry-requires g c =
     let below : c.args.at < length c.self.inside.left.items =
     omega (arith, c.requires.there, ap (λ (i : IdleTableView). length i.left) c.self.view_is) in
     let of : line_ids c.seat.inside.shares ≡ lines_of channels =
-    ap (λ (s : LeftSeatView). s.lines.all) (c.seat.view_is ∙ c.index_mut-seat.ensures.value)
+    ap (λ (s : DepartedSeatView). s.lines.all) (c.seat.view_is ∙ c.index_mut-seat.ensures.value)
     ∙ ap (λ (l : TableLines). l.all) (c.self.invariant.back.of c.args.at c.index_mut-seat.result.now below) in
     let found : AreKnown c.seat.inside.shares (chan_in (helds_of channels)) =
     known_in c.seat.inside.shares channels (as_many c.seat.inside.shares channels of) c.show_known.ensures.seen in
@@ -49,10 +49,10 @@ cause_to_retry-requires g c =
     omega (arith, within, lines_long channels)) in
     let same = sym c.show_known.ensures.same in
     record {
-      fits = subst (λ (cs : List LedgeredView). Fits (kinds_of (chan_in (helds_of cs))) steps) same fit;
-      there = subst (λ (cs : List LedgeredView). (n : ℕ) → Contains c.args.checked.now.declared n → n < length cs)
+      fits = subst (λ (cs : List LineChanView). Fits (kinds_of (chan_in (helds_of cs))) steps) same fit;
+      there = subst (λ (cs : List LineChanView). (n : ℕ) → Contains c.args.checked.now.declared n → n < length cs)
           same there;
-      clean = subst (λ (cs : List LedgeredView). AreClean (helds_of cs)) same c.self.invariant.clean;
+      clean = subst (λ (cs : List LineChanView). AreClean (helds_of cs)) same c.self.invariant.clean;
     }
 
 pub returns-clause-again : goal.returns-clause-again
@@ -60,10 +60,10 @@ returns-clause-again g c seat =
     carried (λ helds tag. IfOk c.cause_to_retry.result (λ found. IfSome found (λ cause.
     transaction (chan_in helds) tag c.args.checked.now.declared c.args.checked.now.steps ≡ Again cause)))
     (helds_of c.show_known.new.self) c.args.self.now.helds c.next_tag-tag.result
-    (next_tag (slice_index_or c.args.self.now.left c.args.at seat).sitting)
+    (next_tag (slice_index_or c.args.self.now.left c.args.at seat).commits)
     (ap helds_of c.show_known.ensures.same ∙ ap (λ (i : IdleTableView). i.helds) c.self.view_is)
     (c.next_tag-tag.ensures
-    ∙ ap (λ (s : LeftSeatView). next_tag s.sitting) (at_place _ _ c.args.at _ _ seat c.self.view_is
+    ∙ ap (λ (s : DepartedSeatView). next_tag s.commits) (at_place _ _ c.args.at _ _ seat c.self.view_is
     c.requires.there c.seat.view_is c.index_mut-seat.ensures.value)) c.cause_to_retry.ensures.again
 
 pub returns-clause-kept : goal.returns-clause-kept
@@ -71,10 +71,10 @@ returns-clause-kept g c seat =
     carried (λ helds tag. IfOk c.cause_to_retry.result (λ found. IfNone found ((state : State) × (
     transaction (chan_in helds) tag c.args.checked.now.declared c.args.checked.now.steps ≡ Kept state))))
     (helds_of c.show_known.new.self) c.args.self.now.helds c.next_tag-tag.result
-    (next_tag (slice_index_or c.args.self.now.left c.args.at seat).sitting)
+    (next_tag (slice_index_or c.args.self.now.left c.args.at seat).commits)
     (ap helds_of c.show_known.ensures.same ∙ ap (λ (i : IdleTableView). i.helds) c.self.view_is)
     (c.next_tag-tag.ensures
-    ∙ ap (λ (s : LeftSeatView). next_tag s.sitting) (at_place _ _ c.args.at _ _ seat c.self.view_is
+    ∙ ap (λ (s : DepartedSeatView). next_tag s.commits) (at_place _ _ c.args.at _ _ seat c.self.view_is
     c.requires.there c.seat.view_is c.index_mut-seat.ensures.value)) c.cause_to_retry.ensures.kept
 
 pub returns-clause-stopped : goal.returns-clause-stopped
@@ -82,41 +82,41 @@ returns-clause-stopped g c seat =
     carried (λ helds tag. IfErr c.cause_to_retry.result (λ stop. stop ≢ NoMemory →
     transaction (chan_in helds) tag c.args.checked.now.declared c.args.checked.now.steps ≡ Aborted stop))
     (helds_of c.show_known.new.self) c.args.self.now.helds c.next_tag-tag.result
-    (next_tag (slice_index_or c.args.self.now.left c.args.at seat).sitting)
+    (next_tag (slice_index_or c.args.self.now.left c.args.at seat).commits)
     (ap helds_of c.show_known.ensures.same ∙ ap (λ (i : IdleTableView). i.helds) c.self.view_is)
     (c.next_tag-tag.ensures
-    ∙ ap (λ (s : LeftSeatView). next_tag s.sitting) (at_place _ _ c.args.at _ _ seat c.self.view_is
+    ∙ ap (λ (s : DepartedSeatView). next_tag s.commits) (at_place _ _ c.args.at _ _ seat c.self.view_is
     c.requires.there c.seat.view_is c.index_mut-seat.ensures.value)) c.cause_to_retry.ensures.stopped
 
 pub returns-clause-lawful : goal.returns-clause-lawful
 returns-clause-lawful g c seat =
-    let channels : List LedgeredView = c.self.inside.locked.lines in
+    let channels : List LineChanView = c.self.inside.locked.lines in
     let below : c.args.at < length c.self.inside.left.items =
     omega (arith, c.requires.there, ap (λ (i : IdleTableView). length i.left) c.self.view_is) in
     let of : line_ids c.seat.inside.shares ≡ lines_of channels =
-    ap (λ (s : LeftSeatView). s.lines.all) (c.seat.view_is ∙ c.index_mut-seat.ensures.value)
+    ap (λ (s : DepartedSeatView). s.lines.all) (c.seat.view_is ∙ c.index_mut-seat.ensures.value)
     ∙ ap (λ (l : TableLines). l.all) (c.self.invariant.back.of c.args.at c.index_mut-seat.result.now below) in
     let found : AreKnown c.seat.inside.shares (chan_in (helds_of channels)) =
     known_in c.seat.inside.shares channels (as_many c.seat.inside.shares channels of) c.show_known.ensures.seen in
-    let whose = ap (λ (s : LeftSeatView). s.lines) (c.seat.view_is ∙ c.index_mut-seat.ensures.value)
+    let whose = ap (λ (s : DepartedSeatView). s.lines) (c.seat.view_is ∙ c.index_mut-seat.ensures.value)
     ∙ c.self.invariant.back.of c.args.at c.index_mut-seat.result.now below in
-    let lawful : AreLawful (line_decls (lines_of channels)) c.seat.inside.history.sitting.receipts
+    let lawful : AreLawful (line_decls (lines_of channels)) c.seat.inside.history.commits.receipts
     (chan_in (helds_of channels)) =
-    (found_by c.seat.inside.shares c.seat.inside.history.sitting (record {
-      sitting = c.seat.inside.history.sitting;
+    (found_by c.seat.inside.shares c.seat.inside.history.commits (record {
+      commits = c.seat.inside.history.commits;
       lines = record {
-        book = c.seat.inside.member.name;
-        seats = c.seat.inside.member.whole;
+        ledger = c.seat.inside.table_share.name;
+        seats = c.seat.inside.table_share.whole;
         all = line_ids c.seat.inside.shares;
       };
       seen = seen_in c.seat.inside.shares;
-    }) (table_lines c.self.inside.locked.members (lines_of channels)) (chan_in (helds_of channels)) refl whose
+    }) (table_lines c.self.inside.locked.table_seats (lines_of channels)) (chan_in (helds_of channels)) refl whose
     c.seat.invariant found).0 in
     let own = at_place _ _ c.args.at _ _ seat c.self.view_is c.requires.there c.seat.view_is
     c.index_mut-seat.ensures.value in
     whatever _ c.cause_to_retry.result
     (subst (λ (i : IdleTableView). AreLawful (decls_of i.table.lines)
-    (slice_index_or c.args.self.now.left c.args.at seat).sitting.receipts (chan_in i.helds)) c.self.view_is
-    (subst (λ (s : LeftSeatView). AreLawful (line_decls (lines_of channels)) s.sitting.receipts (chan_in (helds_of
+    (slice_index_or c.args.self.now.left c.args.at seat).commits.receipts (chan_in i.helds)) c.self.view_is
+    (subst (λ (s : DepartedSeatView). AreLawful (line_decls (lines_of channels)) s.commits.receipts (chan_in (helds_of
     channels)))
     own lawful))

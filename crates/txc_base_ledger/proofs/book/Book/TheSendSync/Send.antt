@@ -1,9 +1,0 @@
-use denote.Param.Send.{IsSend}
-use Rattle.txc_base_ledger.specs.contracts.book.Book.{the_row}
-use Rattle.txc_base_ledger.proofs.Fields.{book_keyless}
-
-pub send : IsSend the_row
-send = record {
-  owned = λ d vs. ((λ vss. (tt, ((λ uss. (tt, tt)), tt))), book_keyless d.name d.whole d.total);
-  leaving = λ k f vs. tt;
-}

@@ -1,8 +1,0 @@
-use Rattle.txc_table_audit.proofs.Positions.{turns_more}
-use Rattle.txc_table_audit.proofs.turn.add_turns.Goals as goal
-
-pub loop-nth-preserved : goal.loop-nth-preserved
-loop-nth-preserved c =
-    turns_more c.loop-nth.turns.items c.push.new.self.items _ c.args.seat c.loop-nth.nth c.args.receipts.now
-    c.index-receipts-nth.result c.loop-nth-test.true
-    c.in_ok-push.ensures.items c.loop-nth.invariant

@@ -1,6 +1,0 @@
-use Rattle.txc_table_interests.proofs.Missing.{no_wake_is_missed}
-use Rattle.txc_table_interests.proofs.Waiting.{still_waits, only_those_wait}
-use Rattle.txc_table_interests.proofs.law.no_wake_is_missed.Goals as goal
-
-pub returns : goal.returns
-returns c = record { awaits = only_those_wait; still = still_waits; missed = no_wake_is_missed }
