@@ -40,7 +40,7 @@
 #ifndef SPURIOUS
 #define SPURIOUS false
 #endif
-#define MOST_SLEEPS 2
+#define MAX_SLEEPS 2
 
 /* what the word of a lock says; those that are not free are in the order of their numbers */
 #define Taken 0
@@ -110,12 +110,12 @@ inline wait_in_turn(c) {
 #if WRONG == 3
           wanted = seen; done = true;
 #else
-          wanted = (sleeps < MOST_SLEEPS -> Awaited : Claimed);
+          wanted = (sleeps < MAX_SLEEPS -> Awaited : Claimed);
           done = true;
           if :: seen < wanted -> compare_exchange(c, seen, wanted) :: else fi;
 #endif
           if
-          :: done -> sleep(c); sleeps = (sleeps < MOST_SLEEPS -> sleeps + 1 : sleeps)
+          :: done -> sleep(c); sleeps = (sleeps < MAX_SLEEPS -> sleeps + 1 : sleeps)
           :: else
           fi
      fi

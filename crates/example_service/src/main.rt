@@ -128,15 +128,15 @@ fn main(rt: HostRuntime) -> anyhow::Result<()> {
     for _ in 0..DOERS {
         hands.push(Hand::Doer(&jobs))?;
     }
-    let closed = serve(&rt, alloc, &channels, hands)?;
-    closed.ended()?;
-    for hand in &closed.servers {
+    let outcome = serve(&rt, alloc, &channels, hands)?;
+    outcome.ended()?;
+    for hand in &outcome.servers {
         if let Hand::Gatherer { answers, sum } = hand {
             // Each of the numbers up to n = COUNT * SIZE is in one job, so the sum is n * (n + 1) / 2.
             println!(rt; "{answers} jobs, whose answers add up to {sum}")?;
         }
     }
-    for summary in closed.summaries.as_slice() {
+    for summary in outcome.summaries.as_slice() {
         let (kind, entries) = (summary.kind.name(), summary.log_len);
         let (closed, empty) = (summary.closed, is_empty(summary));
         println!(rt; "{kind}: {entries} entries, closed: {closed}, empty: {empty}")?;

@@ -21,8 +21,7 @@ pub(crate) fn open(parts: u64) -> (Ledger, Share)
 }
 
 /// Adds an amount to a ledger and to a share of it, and subtracts another amount from both. Shows how the share's
-/// amount
-/// relates to the ledger's total.
+/// amount relates to the ledger's total.
 pub(crate) fn record(ledger: &mut Ledger, share: &mut Share, plus: u64, minus: u64)
     requires { CanRecord plus minus ledger.old share.old }
     ensures { IsRecorded plus minus ledger.old share.old ledger.new share.new }

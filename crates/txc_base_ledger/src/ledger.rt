@@ -1,4 +1,4 @@
-// The total of a ledger.
+// A ledger.
 ghost use Rattle.std.specs.Prelude.{◌≡◌, ◌<◌, ◌≤◌, ◌+◌, ℕ};
 
 use crate::changes::{open, record};
@@ -62,8 +62,7 @@ impl Ledger {
     }
 
     /// Shows that the amount of a share of this ledger is at most the total. The amount is the total if the share has
-    /// all
-    /// parts, and 0 if it has no part. Both stay unchanged.
+    /// all parts, and 0 if it has no part. Both stay unchanged.
     pub fn show_bound(&mut self, share: &mut Share)
         requires of { (share.old.name ≡ self.old.name) × (share.old.whole ≡ self.old.whole) }
         ensures ledger { (self.new.name ≡ self.old.name) × (self.new.whole ≡ self.old.whole) }

@@ -37,8 +37,7 @@ impl Share {
     }
 
     /// Moves some parts and an amount to another share of the same ledger. After that each share with an amount must
-    /// have
-    /// a part.
+    /// have a part.
     pub fn give(&mut self, to: &mut Share, parts: u64, amount: u64)
         requires of { (to.old.name ≡ self.old.name) × (to.old.whole ≡ self.old.whole) }
         requires enough_parts { parts ≤ self.old.parts }

@@ -114,8 +114,7 @@ impl Cast {
     }
 
     /// Returns whether the written item number `position` is at the slot of this sight. If it is, it is the sight's
-    /// item.
-    /// The sight must be of the list's own shelf.
+    /// item. The sight must be of the list's own shelf.
     pub fn agrees(&self, position: usize, sight: &Sight) -> bool
         requires { IsOf self.now.shelf sight.now }
         ensures slot { IsTrue result ↔ (slice_get self.now.slots position ≡ Some sight.now.slot) }
@@ -281,8 +280,7 @@ impl Cast {
     }
 
     // Each `undo_` states what the cast becomes (`value`), and that this is the cast from before the call that it
-    // undoes
-    // (`undone`, which follows from `value`).
+    // undoes (`undone`, which follows from `value`).
 
     /// Undoes the last append. There must be a written item, and each reader must have a written item still to read.
     /// The item of the append stays on the shelf.

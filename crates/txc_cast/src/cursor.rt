@@ -6,7 +6,7 @@ use std::alloc::{AllocError, Global};
 use std::marker::Model;
 use txc_base::Item;
 
-/// The position of a reader: a place among the items written, and its own put-backs, which it reads first.
+/// The position of a reader: the number of its next written item, and its own put-backs, which it reads first.
 #[derive(Drop)]
 pub(crate) struct Cursor {
     position: usize,
@@ -32,7 +32,7 @@ impl Model for Cursor {
 }
 
 impl Cursor {
-    /// Returns a reader that begins at this place.
+    /// Returns a reader that begins at this position.
     pub(crate) fn new(alloc: Global, position: usize) -> Cursor
         ensures { result ≡ standing_at position }
     {

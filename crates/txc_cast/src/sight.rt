@@ -19,6 +19,7 @@ pub struct Sight {
 
 impl fmt::Debug for Sight {
     fn fmt<W: fmt::Write>(&self, f: &mut fmt::Formatter<W>) -> fmt::Result {
+        // The token is not shown.
         let Sight { slot, item, .. } = self;
         write!(f, "Sight {{ slot: {slot}, item: {item:?} }}")
     }

@@ -200,8 +200,7 @@ impl<K: Log> Chan<K> {
 
     /// Does an operation of a transaction and adds its acts to the log with this tag. `last` is the body that the
     /// transaction read or peeked last. The kind of the channel must support the operation (`txc_base::supports`).
-    /// Returns
-    /// the reply, or `Retry` with the cause if the transaction must wait.
+    /// Returns the reply, or `Retry` with the cause if the transaction must wait.
     ///
     /// Returns `NoReader`, `NothingRead` or `TooManyReaders` if the operation aborts. Otherwise returns `NoMemory` if
     /// the operation has acts and allocation fails. On an error and on `Retry` the channel is unchanged. Blocks only if

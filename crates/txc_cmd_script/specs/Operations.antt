@@ -11,7 +11,7 @@ use Rattle.txc_cmd_script.specs.declared.step_name.StepName.{StepName}
 use Rattle.txc_cmd_script.specs.declared.step_name.StepName.TheVariants as step_name
 use Rattle.txc_cmd_script.specs.Tree.{whole, is_text}
 
--- the step name of a step's first element
+-- the step name that is this text
 abbrev pub step_name_of : List ℕ → Option StepName
 step_name_of text = if pointwise nat_eq text (codes "write") then Some step_name.Write
     else if pointwise nat_eq text (codes "try-write") then Some step_name.TryWrite
@@ -90,7 +90,7 @@ put_back_of (chan ∷ reader ∷ body ∷ []) =
     option_and_then (λ r. op_with_body (λ c. op.PutBack c r) (number_in chan) (source_in body)) (number_in reader)
 put_back_of (chan ∷ reader ∷ body ∷ more ∷ rest) = None
 
--- the operation of a step name and the elements after it; none for `or` and `retry`, which are not operations
+-- the operation by the name of its step and the elements after it; none for `or` and `retry`, which are not operations
 abbrev pub op_of : StepName → List Data → Option Op
 op_of step_name.Write elements = of_body op.Write elements
 op_of step_name.TryWrite elements = of_body op.TryWrite elements

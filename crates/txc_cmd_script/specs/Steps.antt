@@ -41,17 +41,17 @@ abbrev pub retry_of : Items → Result Step StepFault
 retry_of no_items = Ok Retry
 retry_of (item tree rest) = Err Shape
 
--- the step of a step name without branches and the elements after it
+-- a step without branches, by its name and the elements after it
 abbrev pub simple_step : StepName → Items → Result Step StepFault
 simple_step step_name.Retry elements = retry_of elements
 simple_step step_name elements = mapped Do (or_fault Shape (op_of step_name (list_of_items elements)))
 
--- the step of a step name and the elements after it, given the branches in them
+-- a step, by its name and the elements after it, given the branches in them
 abbrev pub step_by : StepName → Items → Result (List (List Step)) StepFault → Result Step StepFault
 step_by step_name.Or elements branches = if are_lists elements then mapped Or branches else Err Shape
 step_by step_name elements branches = simple_step step_name elements
 
--- the step name that the first element's text names, if it has one
+-- the step name that is the first element's text, if it has one
 abbrev pub step_name_in : Option (List ℕ) → Result StepName StepFault
 step_name_in None = Err Shape
 step_name_in (Some name) = or_fault UnknownOp (step_name_of name)

@@ -72,7 +72,8 @@ fn read_put_back(operands: &[Value]) -> Option<Op>
     Some(Op::PutBack { chan, reader, body })
 }
 
-/// Reads the operation of a step name and the elements after it. Returns `None` for `or` and `retry`, which are not
+/// Reads an operation from the name of its step and the elements after it. Returns `None` for `or` and `retry`, which
+/// are not
 /// operations.
 pub(crate) fn read_op(step_name: StepName, operands: &[Value]) -> Option<Op>
     ensures { result ≡ op_of step_name (map view operands.now) }

@@ -21,6 +21,7 @@ impl Model for Script {
 
     ghost Value = { Said };
 
+    // Only for the proof: values of `Value` have a code, because the steps in them have one.
     ghost coded = { Prim.hlevel (codes, step.the_row.coded) };
 
     ghost view = { λ script. record {

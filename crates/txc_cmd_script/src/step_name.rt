@@ -1,8 +1,8 @@
-// The step name that the first element of a step names.
+// The name of a step, which is its first element.
 ghost use Rattle.std.specs.Prelude.{◌≡◌};
 ghost use Rattle.txc_cmd_script.specs.Operations.{step_name_of};
 
-/// The step name of a step, named by its first element.
+/// The name of a step.
 #[derive(Clone, Copy)]
 pub(crate) enum StepName {
     Write,
@@ -24,7 +24,7 @@ pub(crate) enum StepName {
     Retry,
 }
 
-/// Returns the step name with this name, if there is one.
+/// Returns the step name that is this text, if there is one.
 pub(crate) fn read_step_name(name: &str) -> Option<StepName>
     ensures { result ≡ step_name_of name.now }
 {

@@ -17,7 +17,7 @@ use txc_txn_check::Step;
 pub(crate) enum StepFault {
     /// The tree does not have the shape of steps.
     Shape,
-    /// A step's name is not the name of a step name.
+    /// The first element of a step is not a step name.
     UnknownOp,
     /// Allocation failed.
     NoMemory,
@@ -68,7 +68,7 @@ fn read_name(name: &Value) -> Result<StepName, StepFault>
     }
 }
 
-/// Reads the step of a step name without branches from the elements after the step name.
+/// Reads a step without branches from its name and the elements after it.
 fn read_simple_step(step_name: StepName, operands: &[Value]) -> Result<Step, StepFault>
     ensures { result ≡ simple_step step_name (items_view operands.now) }
 {

@@ -23,6 +23,7 @@ impl<K: Log, S: Receipts> Model for DepartedSeat<K, S> {
 
     ghost Value = { DepartedSeatView };
 
+    // Only for the proof: values of `Value` have a code, because the steps in them have one.
     ghost coded = { Prim.hlevel (codes, step.the_row.coded) };
 
     ghost view = { λ seat. record {

@@ -87,9 +87,9 @@ pub(crate) fn make_drafts(alloc: Global, seats: u16) -> Result<Vec<Box<PaddedRec
     Ok(made)
 }
 
-/// Makes the seats of a new table with these lines in this room, from their histories, their drafts and what a new
-/// seat has of each line: they are numbered from 0, have no receipts and have seen no entry. Returns how many
-/// seats the table has, with the seats.
+/// Makes the seats of a new table with these lines in this room, from their histories, their drafts and what a new seat
+/// has of each line: they are numbered from 0, have no receipts and have seen no entry. Returns how many seats the
+/// table has, with the seats.
 pub(crate) fn make_seats<K: Log, S: Receipts>(
     lines: &Lines<K>,
     histories: Vec<History<S>>,

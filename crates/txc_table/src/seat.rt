@@ -37,6 +37,7 @@ impl<K: Log, S: Receipts> Model for Seat<K, S> {
 
     ghost Value = { SeatView };
 
+    // Only for the proof: values of `Value` have a code, because the steps in them have one.
     ghost coded = { Prim.hlevel (codes, step.the_row.coded) };
 
     ghost view = { λ seat. record {

@@ -96,7 +96,7 @@ next_more seat receipts before nth e d next lt names follows so = one_more seat 
 pub other_seat : (seat : ℕ) (receipts : List Receipt) (nth : ℕ) (d : Receipt) → nth < length receipts
     → ¬ ((slice_index_or receipts nth d).tag.seat ≡ seat)
     → ¬ IsInTurn seat receipts
-other_seat seat receipts nth d lt other key = other (key.own nth d lt)
+other_seat seat receipts nth d lt other turn = other (turn.own nth d lt)
 
 -- a receipt does not follow the one before it
 pub not_next : (seat : ℕ) (receipts : List Receipt) (before nth : ℕ) (e d : Receipt) → before + 1 ≡ nth
@@ -104,12 +104,12 @@ pub not_next : (seat : ℕ) (receipts : List Receipt) (before nth : ℕ) (e d : 
     → ¬ (((slice_index_or receipts before e).tag.serial < (slice_index_or receipts nth d).tag.serial)
     × ((slice_index_or receipts before e).tag.stamp ≤ (slice_index_or receipts nth d).tag.stamp))
     → ¬ IsInTurn seat receipts
-not_next seat receipts before nth e d next lt not key =
+not_next seat receipts before nth e d next lt not turn =
     let at : slice_get receipts before ≡ Some (slice_index_or receipts before e) =
     slice_get-get_or receipts before e (omega (arith, lt, next)) in
     let at' : slice_get receipts (before + 1) ≡ Some (slice_index_or receipts nth d) = ap (slice_get receipts) next
     ∙ slice_get-get_or receipts nth d lt in
     not (
-      key.serials before (slice_index_or receipts before e) (slice_index_or receipts nth d) at at',
-      key.stamps before (slice_index_or receipts before e) (slice_index_or receipts nth d) at at',
+      turn.serials before (slice_index_or receipts before e) (slice_index_or receipts nth d) at at',
+      turn.stamps before (slice_index_or receipts before e) (slice_index_or receipts nth d) at at',
     )

@@ -17,8 +17,7 @@ pub struct ReceiptKey {
     pub nth: usize,
 }
 
-/// Adds the keys of a seat's receipts. Returns `AllocError` if allocation fails; some keys can then have been
-/// added.
+/// Adds the keys of a seat's receipts. Returns `AllocError` if allocation fails; some keys can then have been added.
 fn add_keys(keys: &mut Vec<ReceiptKey>, seat: u16, receipts: &[Receipt]) -> Result<(), AllocError>
     ensures { OnOk result (keys.new.items ≡ keys.old.items ++ keys_of seat 0 receipts.now) }
 {

@@ -5,8 +5,7 @@ use std::marker::Model;
 use txc_base_ledger::Share;
 
 /// Shares of a line's two ledgers, which count its entries and its marks, with as many parts of the one as of the
-/// other.
-/// In a contract it is whose ledgers they are, the number of parts, and what they count. It has no bytes.
+/// other. In a contract it is whose ledgers they are, the number of parts, and what they count. It has no bytes.
 #[derive(Drop)]
 pub struct LedgerShares {
     pub(crate) entries: Share,

@@ -24,9 +24,8 @@ use txc_chan::Log;
 mod commit;
 
 /// What a seat has of a line: a part of the line's ledgers, the channel when the seat last committed on it or saw it,
-/// and
-/// tokens of its log and of its marks. In a contract it is which line it is, how many entries and marks the seat has
-/// made, and what it has seen of the log and of the marks. It has no bytes.
+/// and tokens of its log and of its marks. In a contract it is which line it is, how many entries and marks the seat
+/// has made, and what it has seen of the log and of the marks. It has no bytes.
 #[derive(Drop)]
 pub struct SeatShare<K: Log> {
     pub(crate) shares: LedgerShares,

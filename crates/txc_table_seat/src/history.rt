@@ -43,6 +43,7 @@ impl<S: Receipts> Model for History<S> {
 
     ghost Value = { HistoryView };
 
+    // Only for the proof: values of `Value` have a code, because the steps in them have one.
     ghost coded = { Prim.hlevel (codes, step.the_row.coded) };
 
     ghost view = { λ history. record {

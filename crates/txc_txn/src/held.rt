@@ -23,14 +23,12 @@ use txc_txn_check::Checked;
 ///
 /// `tag` has the stamp of the seat's last commit, or 0 before the first. The stamp of the receipt is one more than the
 /// greatest of it and the stamps of the declared channels. Each declared channel must be held, and its kind must
-/// support
-/// the operations on it.
+/// support the operations on it.
 ///
 /// Returns `Worn` if the serial or that greatest stamp is the greatest number. Otherwise returns the stop if the
 /// transaction aborts, and `NoMemory` if allocation fails. On an error and on a retry all channels are unchanged.
 /// Blocks only if the handle permits it. The receipt reuses the memory of `recycled`, and allocates only if that memory
-/// is
-/// too small. Operations on the channels can allocate.
+/// is too small. Operations on the channels can allocate.
 pub fn run_pending<H: Hold, R: Append>(
     rt: &R,
     recycled: Receipt,
@@ -98,10 +96,9 @@ pub fn run_held<H: Settle, R: Append>(
 }
 
 /// Runs a transaction like `run_held`, under the same conditions, in the memory of the receipt `recycled`. A caller
-/// that
-/// drops each receipt once it is read can pass it as `recycled` next. The receipt allocates only if that memory is too
-/// small. On an error and on a retry that memory is freed. Fails and blocks like `run_held`. Operations on the channels
-/// can allocate.
+/// that drops each receipt once it is read can pass it as `recycled` next. The receipt allocates only if that memory is
+/// too small. On an error and on a retry that memory is freed. Fails and blocks like `run_held`. Operations on the
+/// channels can allocate.
 pub fn run_held_reusing<H: Settle, R: Append>(
     rt: &R,
     recycled: Receipt,

@@ -18,8 +18,7 @@ pub struct Receipt {
 
 impl Receipt {
     /// Creates a receipt without replies and acts, whose numbers are all 0. Pass it to `run_held_reusing` if there is
-    /// no
-    /// receipt to reuse.
+    /// no receipt to reuse.
     pub fn blank(alloc: Global) -> Receipt
         ensures tag { (result.tag.seat ≡ 0) × (result.tag.serial ≡ 0) × (result.tag.stamp ≡ 0) }
         ensures replies { result.replies ≡ [] }

@@ -1,4 +1,4 @@
-// The space of a receipt for one act.
+// The buffers of a receipt for one act.
 ghost use Rattle.std.specs.Prelude.{◌≡◌, ◌<◌, [], ◌∷◌, vec_capacity, OnErr, IfOk, OnOk};
 ghost use Rattle.txc_chan.specs.Committed.{reply_to};
 
@@ -72,7 +72,7 @@ impl ReceiptBuffers {
         receipt.acts = List::from_vec(acts);
     }
 
-    /// Makes the receipt, in this room, of a transaction that committed with this tag and had only this act.
+    /// Makes the receipt, in these buffers, of a transaction that committed with this tag and had only this act.
     #[inline(always)]
     pub fn fill(self, receipt: &mut Receipt, tag: Tag, deed: Deed)
         ensures { receipt.new ≡ record { tag = tag; replies = reply_to deed.act ∷ []; acts = deed ∷ [] } }

@@ -18,9 +18,8 @@ use txc_chan::Append;
 
 /// Runs a transaction of one operation on its channel, which must be held and of a kind that has the operation. It is
 /// what `run_held_reusing` does with this one step: the same receipt, stamps, retries and stops, but no step is kept
-/// and
-/// nothing is noted of other channels. After a retry or a stop the channel is as before. The new receipt has the memory
-/// of the spent one, and takes more only if that is too little. May wait if the handle may.
+/// and nothing is noted of other channels. After a retry or a stop the channel is as before. The new receipt has the
+/// memory of the spent one, and takes more only if that is too little. May wait if the handle may.
 pub fn run_one<H: Settle, R: Append>(
     rt: &R,
     recycled: Receipt,

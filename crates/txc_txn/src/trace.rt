@@ -22,8 +22,8 @@ pub struct Trace {
 
 impl Trace {
     /// Creates the trace of a run that has done nothing yet, in the memory of the receipt `recycled`. A list without
-    /// memory
-    /// allocates with its first element, and then has room for one element per step, at most for `MAX_OPERATIONS`.
+    /// memory allocates with its first element, and then has room for one element per step, at most for
+    /// `MAX_OPERATIONS`.
     pub fn reusing(recycled: Receipt, steps: usize) -> Trace
         ensures last { result.last ≡ None }
         ensures replies { result.replies.items ≡ [] }

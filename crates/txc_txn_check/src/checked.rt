@@ -32,6 +32,7 @@ impl Model for Checked {
 
     ghost Value = { CheckedView };
 
+    // Only for the proof: values of `Value` have a code, because the steps in them have one.
     ghost coded = { Prim.hlevel (codes, step.the_row.coded) };
 
     ghost view = { λ checked. record { steps = checked.steps; declared = checked.declared.items } };

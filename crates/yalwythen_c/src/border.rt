@@ -1,4 +1,6 @@
-// The calls that take a domain by its address in the caller's memory.
+// The calls that take a domain by its address in the caller's memory. Each with `requires*` or `ensures*` has a proof
+// by
+// hand in `proofs/border/`, which follows the body call by call and changes with it.
 ghost use Rattle.std.specs.Prelude.{false, true};
 ghost use base.Fml.{fex};
 ghost use types.Logic.{sem};
@@ -42,8 +44,8 @@ pub unsafe extern "C" fn yalwythen_core_init_recorded(at: *mut u8, alloc: Global
 }
 
 /// Performs the request with the number `request` on the domain at this address, like `Domain::ask` of
-/// `yalwythen_domain`,
-/// and returns its result. The result's code is 4 if the request is rejected, and 5 if an allocation fails.
+/// `yalwythen_domain`, and returns its result. The result's code is 4 if the request is rejected, and 5 if an
+/// allocation fails.
 #[unsafe(no_mangle)]
 pub unsafe extern "C" fn yalwythen_core_ask(at: *mut u8, request: u64, a: u64, b: u64) -> CallResult
     ghost before: { Domains }
@@ -56,10 +58,9 @@ pub unsafe extern "C" fn yalwythen_core_ask(at: *mut u8, request: u64, a: u64, b
 }
 
 /// Runs the steps in `raw_steps` as one transaction of a seat of the domain at this address. If it commits, returns
-/// code 0
-/// with the number of replies, and writes as many of them as fit to the front of `replies`. Otherwise the code is 1 if
-/// the transaction must be retried, 2 if it aborts, 3 if the steps are invalid, 4 if the request is rejected, and 5 if
-/// an allocation fails. Allocates.
+/// code 0 with the number of replies, and writes as many of them as fit to the front of `replies`. Otherwise the code
+/// is 1 if the transaction must be retried, 2 if it aborts, 3 if the steps are invalid, 4 if the request is rejected,
+/// and 5 if an allocation fails. Allocates.
 #[unsafe(no_mangle)]
 pub unsafe extern "C" fn yalwythen_core_transact(
     at: *mut u8,

@@ -49,11 +49,11 @@ steps_with chan reader body =
     ∷ Do (CloneReader chan reader)
     ∷ []
 
--- the step that an order is
+-- the step that a raw step is
 abbrev pub step_of : RawStep → Option Step
 step_of raw_step = slice_get (steps_with raw_step.chan raw_step.reader raw_step.body) raw_step.number
 
--- an order is a step, and not a mark of alternatives
+-- a raw step is a step, and not a mark of alternatives
 abbrev pub IsPlain : RawStep → Type 0
 IsPlain raw_step = raw_step.number < 19
 

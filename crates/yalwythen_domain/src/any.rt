@@ -129,7 +129,7 @@ fn account_of(
 /// Drops a value that any thread can have.
 fn assert_send<T: Send + Drop>(_value: T) {}
 
-/// Drops a domain and frees its memory. That this compiles shows that a domain is `Send`.
+/// Drops a domain and frees what it allocated. That this compiles shows that a domain is `Send`.
 pub fn drop_domain(domain: Domain) {
     assert_send(domain);
 }

@@ -204,9 +204,8 @@ impl<K: Log> Channels<K> {
     }
 
     /// Runs steps as one transaction with the tag of the seat's last one, in the memory of the receipt `recycled`.
-    /// Fails
-    /// with the first fault that a check of the steps finds, or with the stop if the transaction aborts. After a retry
-    /// or an error the channels are unchanged.
+    /// Fails with the first fault that a check of the steps finds, or with the stop if the transaction aborts. After a
+    /// retry or an error the channels are unchanged.
     pub(crate) fn run(&mut self, recycled: Receipt, tag: Tag, steps: Steps) -> Result<Ran, RunError>
         ensures comes { ComesOfSteps (walk (slice_get self.old.kinds) (list_of_steps steps)) tag (list_of_steps steps)
             result (chan_in self.old.held) (chan_in self.new.held) }

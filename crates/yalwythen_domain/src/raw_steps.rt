@@ -33,7 +33,7 @@ const END: u32 = 21;
 /// Why an array is not a list of steps.
 #[derive(Debug, Clone, Copy)]
 pub(crate) enum RawStepError {
-    /// An order has a number that no step has.
+    /// A raw step has a number that no step has.
     NoSuch,
     /// A branch or alternatives end without a beginning, or begin without an end.
     Unpaired,
@@ -121,7 +121,7 @@ impl Reading {
         Ok(())
     }
 
-    /// Reads one order.
+    /// Reads one raw step.
     fn read(&mut self, raw_step: &RawStep) -> Result<(), RawStepError>
         ensures nested { OnOk result (IsPlain raw_step.now → self.new.nested.items ≡ self.old.nested.items) }
         ensures tokens { OnOk result (map Some (read_so_far self.new.nested.items self.new.steps.items)

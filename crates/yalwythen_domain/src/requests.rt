@@ -292,7 +292,7 @@ impl<K: Log> State<K> {
     }
 }
 
-/// Returns whether the open transaction goes on after an operation. After a retry or a stop it must be rolled back.
+/// Returns the status of the open transaction after an operation. After a retry or a stop it must be rolled back.
 fn status_after(ran: &Result<StepOutcome, RunError>) -> TransactionStatus
     ensures { result ≡ status_after ran.now }
 {

@@ -25,12 +25,12 @@ use Rattle.txc_txn.specs.Transaction.{Aborted as AbortsWith}
 
 -- a session of these
 abbrev pub session_of : TableView → SeatCommits → PlansView → SessionView
-session_of table seat ledger = record {
+session_of table seat plans = record {
   table = table;
   seat = seat;
-  audited = ledger.audited;
-  plans = ledger.kept;
-  prepared = ledger.prepared;
+  audited = plans.audited;
+  plans = plans.kept;
+  prepared = plans.prepared;
 }
 
 -- what a try through this seat gave on some channels, and its effect on the seat
@@ -44,16 +44,16 @@ IsStoppedAt decls seat plan stop = (m : Map) × AreFound decls seat.commits.rece
     × (transaction m (next_tag seat.commits) plan.declared plan.steps ≡ AbortsWith stop)
 
 -- a try, as the session has it
-pub asks : (table : TableView) (seat after : SeatView) (ledger ledger' : PlansView) (steps : List Step)
+pub asks : (table : TableView) (seat after : SeatView) (plans plans' : PlansView) (steps : List Step)
     (plan : CheckedView)
     (tried : Tried) (before : SessionView)
-    → session_of table seat.commits ledger ≡ before → plan.steps ≡ steps → IsChecked plan
-    → ledger'.kept ≡ kept_after ledger.audited ledger.kept plan tried
-    → ledger'.audited ≡ ledger.audited → ledger'.prepared ≡ ledger.prepared
+    → session_of table seat.commits plans ≡ before → plan.steps ≡ steps → IsChecked plan
+    → plans'.kept ≡ kept_after plans.audited plans.kept plan tried
+    → plans'.audited ≡ plans.audited → plans'.prepared ≡ plans.prepared
     → IsTriedAt (decls_of table.lines) seat plan tried after
-    → IsTried before steps tried (session_of table after.commits ledger')
-asks table seat after ledger ledger' steps plan tried before is same checked kept audited prepared found =
-    subst (λ (d : SessionView). IsTried d steps tried (session_of table after.commits ledger')) is
+    → IsTried before steps tried (session_of table after.commits plans')
+asks table seat after plans plans' steps plan tried before is same checked kept audited prepared found =
+    subst (λ (d : SessionView). IsTried d steps tried (session_of table after.commits plans')) is
     (record {
       plan = plan;
       its = same;
@@ -68,40 +68,40 @@ asks table seat after ledger ledger' steps plan tried before is same checked kep
     })
 
 -- a stall
-pub stalls : (table : TableView) (seat after : SeatView) (ledger : PlansView) (steps : List Step) (plan : CheckedView)
+pub stalls : (table : TableView) (seat after : SeatView) (plans : PlansView) (steps : List Step) (plan : CheckedView)
     (cause : Cause) (before : SessionView)
-    → session_of table seat.commits ledger ≡ before → plan.steps ≡ steps → IsChecked plan
+    → session_of table seat.commits plans ≡ before → plan.steps ≡ steps → IsChecked plan
     → IsTriedAt (decls_of table.lines) seat plan (Retry cause) after
     → HasFailedWith before steps (Stalled cause)
-stalls table seat after ledger steps plan cause before is same checked found =
+stalls table seat after plans steps plan cause before is same checked found =
     subst (λ (d : SessionView). HasFailedWith d steps (Stalled cause)) is
     (plan, same, checked, (found.0, found.1.0, found.2.1))
 
 -- a stop
-pub stops : (table : TableView) (seat : SeatView) (ledger : PlansView) (steps : List Step) (plan : CheckedView)
+pub stops : (table : TableView) (seat : SeatView) (plans : PlansView) (steps : List Step) (plan : CheckedView)
     (stop : Stop)
     (before : SessionView)
-    → session_of table seat.commits ledger ≡ before → plan.steps ≡ steps → IsChecked plan
+    → session_of table seat.commits plans ≡ before → plan.steps ≡ steps → IsChecked plan
     → (stop ≢ NoMemory → IsStoppedAt (decls_of table.lines) seat plan stop)
     → HasFailedWith before steps (Stopped stop)
-stops table seat ledger steps plan stop before is same checked found =
+stops table seat plans steps plan stop before is same checked found =
     subst (λ (d : SessionView). HasFailedWith d steps (Stopped stop)) is
     (λ other. (let stopped = found other in (plan, same, checked, (stopped.0, stopped.1.0, stopped.2))))
 
 -- steps that are no transaction
-pub unfits : (table : TableView) (seat : SeatView) (ledger : PlansView) (steps : List Step) (kinds : List Kind)
+pub unfits : (table : TableView) (seat : SeatView) (plans : PlansView) (steps : List Step) (kinds : List Kind)
     (fault : TxnFault) (before : SessionView)
-    → session_of table seat.commits ledger ≡ before → kinds ≡ table.kinds → walk (slice_get kinds) steps ≡ Faulty fault
+    → session_of table seat.commits plans ≡ before → kinds ≡ table.kinds → walk (slice_get kinds) steps ≡ Faulty fault
     → HasFailedWith before steps (Unfit fault)
-unfits table seat ledger steps kinds fault before is same walked =
+unfits table seat plans steps kinds fault before is same walked =
     subst (λ (d : SessionView). HasFailedWith d steps (Unfit fault)) is
     (subst (λ (ks : List Kind). walk (slice_get ks) steps ≡ Faulty fault) same walked)
 
 -- a prepared transaction, as the session has it
-pub is_there : (table : TableView) (seat : SeatView) (ledger ledger' : PlansView) (n : ℕ) (plan : CheckedView)
+pub is_there : (table : TableView) (seat : SeatView) (plans plans' : PlansView) (n : ℕ) (plan : CheckedView)
     (before : SessionView)
-    → session_of table seat.commits ledger ≡ before → ledger'.prepared ≡ ledger.prepared
-    → slice_get ledger'.prepared n ≡ Some plan → slice_get before.prepared n ≡ Some plan
-is_there table seat ledger ledger' n plan before is same there =
+    → session_of table seat.commits plans ≡ before → plans'.prepared ≡ plans.prepared
+    → slice_get plans'.prepared n ≡ Some plan → slice_get before.prepared n ≡ Some plan
+is_there table seat plans plans' n plan before is same there =
     subst (λ (d : SessionView). slice_get d.prepared n ≡ Some plan) is
     (subst (λ (ps : List CheckedView). slice_get ps n ≡ Some plan) same there)

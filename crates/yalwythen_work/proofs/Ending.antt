@@ -60,23 +60,23 @@ module _ (table : TableView) (decls : List Decl) (seats : ℕ) (made : List Seat
   }
 
 -- if each of these seats is at its number, a history of what they committed is one of what was noted of each
-in_ledgers : (decls : List Decl) (seats : ℕ) (left : List SeatCommits) (ledgers : List PlansView) (report : Report)
-    → IsOneHistory decls left report → length report.receipts ≡ seats → length left ≡ seats → length ledgers ≡ seats
+in_ledgers : (decls : List Decl) (seats : ℕ) (left : List SeatCommits) (lists : List PlansView) (report : Report)
+    → IsOneHistory decls left report → length report.receipts ≡ seats → length left ≡ seats → length lists ≡ seats
     → ((k : ℕ) (d : SeatCommits) → k < seats → (slice_index_or left k d).number ≡ k)
     → ((k : ℕ) (d : SeatCommits) (b : PlansView) → k < seats
-    → (slice_index_or ledgers k b).kept ≡ (slice_index_or left k d).plans)
-    → (order : List Event) × IsOneOrder decls (map (λ (ledger : PlansView). ledger.kept) ledgers) report order
-in_ledgers decls seats left ledgers report history many here all each noted =
+    → (slice_index_or lists k b).kept ≡ (slice_index_or left k d).plans)
+    → (order : List Event) × IsOneOrder decls (map (λ (plans : PlansView). plans.kept) lists) report order
+in_ledgers decls seats left lists report history many here all each noted =
     subst (λ (ps : List (List CheckedView)). (order : List Event) × IsOneOrder decls ps report order) (sym same)
     (history.order, history.one)
   where
-    long : length (map (λ (ledger : PlansView). ledger.kept) ledgers) ≡ length history.plans
-    long = length-map ledgers (λ (ledger : PlansView). ledger.kept) ∙ all ∙ sym many ∙ sym history.many
+    long : length (map (λ (plans : PlansView). plans.kept) lists) ≡ length history.plans
+    long = length-map lists (λ (plans : PlansView). plans.kept) ∙ all ∙ sym many ∙ sym history.many
 
-    at : (k : ℕ) → k < length (map (λ (ledger : PlansView). ledger.kept) ledgers)
-        → slice_index_or (map (λ (ledger : PlansView). ledger.kept) ledgers) k [] ≡ slice_index_or history.plans k []
+    at : (k : ℕ) → k < length (map (λ (plans : PlansView). plans.kept) lists)
+        → slice_index_or (map (λ (plans : PlansView). plans.kept) lists) k [] ≡ slice_index_or history.plans k []
     at k below =
-        let in_all : k < length ledgers = subst (λ n. k < n) (length-map ledgers (λ (ledger : PlansView). ledger.kept))
+        let in_all : k < length lists = subst (λ n. k < n) (length-map lists (λ (plans : PlansView). plans.kept))
         below in
         let within : k < seats = subst (λ n. k < n) all in_all in
         let in_plans : k < length history.plans = subst (λ n. k < n) long below in
@@ -88,23 +88,23 @@ in_ledgers decls seats left ledgers report history many here all each noted =
         ∙ by.its in
         let is : slice_index_or left k by.seat ≡ by.seat =
         subst (λ n. slice_index_or left n by.seat ≡ by.seat) number found in
-        let d : PlansView = some_of ledgers k in_all in
-        get_or-map (λ (ledger : PlansView). ledger.kept) ledgers k d [] in_all
+        let d : PlansView = some_of lists k in_all in
+        get_or-map (λ (plans : PlansView). plans.kept) lists k d [] in_all
         ∙ noted k by.seat d within ∙ ap (λ (s : SeatCommits). s.plans) is ∙ by.theirs
 
-    same : map (λ (ledger : PlansView). ledger.kept) ledgers ≡ history.plans
-    same = ext_get_or [] (map (λ (ledger : PlansView). ledger.kept) ledgers) history.plans long at
+    same : map (λ (plans : PlansView). plans.kept) lists ≡ history.plans
+    same = ext_get_or [] (map (λ (plans : PlansView). plans.kept) lists) history.plans long at
 
 -- .. also if the seats have left a table
-pub serial : (decls : List Decl) (seats : ℕ) (left : List DepartedSeatView) (ledgers : List PlansView) (report : Report)
+pub serial : (decls : List Decl) (seats : ℕ) (left : List DepartedSeatView) (lists : List PlansView) (report : Report)
     → IsOneHistory decls (commits_of left) report → length report.receipts ≡ seats → length left ≡ seats
-    → length ledgers ≡ seats
+    → length lists ≡ seats
     → ((k : ℕ) (l : DepartedSeatView) → k < seats → (slice_index_or left k l).commits.number ≡ k)
     → ((k : ℕ) (l : DepartedSeatView) (b : PlansView) → k < seats
-    → (slice_index_or ledgers k b).kept ≡ (slice_index_or left k l).commits.plans)
-    → (order : List Event) × IsOneOrder decls (map (λ (ledger : PlansView). ledger.kept) ledgers) report order
-serial decls seats left ledgers report history many here all each noted =
-    in_ledgers decls seats (commits_of left) ledgers report history many
+    → (slice_index_or lists k b).kept ≡ (slice_index_or left k l).commits.plans)
+    → (order : List Event) × IsOneOrder decls (map (λ (plans : PlansView). plans.kept) lists) report order
+serial decls seats left lists report history many here all each noted =
+    in_ledgers decls seats (commits_of left) lists report history many
     (length-map left (λ (seat : DepartedSeatView). seat.commits) ∙ here) all
     (λ k d below. let within : k < length left = subst (λ n. k < n) (sym here) below in
     let l : DepartedSeatView = some_of left k within in

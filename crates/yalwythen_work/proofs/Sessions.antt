@@ -10,13 +10,13 @@ use Rattle.yalwythen_work.specs.Plans.{PlansView, noted}
 use Rattle.yalwythen_work.specs.SeatWithPlans.{SeatWithPlansView}
 
 -- a transaction that the seat committed was noted
-pub keeps_noted : (first : SeatWithPlansView) (table : TableView) (seat after : SeatView) (ledger ledger' : PlansView)
+pub keeps_noted : (first : SeatWithPlansView) (table : TableView) (seat after : SeatView) (plans plans' : PlansView)
     (plan : CheckedView)
-    (receipt : Receipt) → IsSession first table seat ledger → after.commits ≡ with_receipt seat.commits plan receipt
-    → after.lines ≡ seat.lines → ledger'.kept ≡ noted ledger.audited ledger.kept plan → ledger'.prepared
-    ≡ ledger.prepared
-    → ledger'.audited ≡ ledger.audited → IsSession first table after ledger'
-keeps_noted first table seat after ledger ledger' plan receipt was committed lines kept prepared same = record {
+    (receipt : Receipt) → IsSession first table seat plans → after.commits ≡ with_receipt seat.commits plan receipt
+    → after.lines ≡ seat.lines → plans'.kept ≡ noted plans.audited plans.kept plan → plans'.prepared
+    ≡ plans.prepared
+    → plans'.audited ≡ plans.audited → IsSession first table after plans'
+keeps_noted first table seat after plans plans' plan receipt was committed lines kept prepared same = record {
   of = lines ∙ was.of;
   fit = rw prepared was.fit;
   back = record {
@@ -24,17 +24,17 @@ keeps_noted first table seat after ledger ledger' plan receipt was committed lin
     lines = lines ∙ was.back.lines;
     audited = same ∙ was.back.audited;
     noted = λ is.
-        kept ∙ ap (λ b. noted b ledger.kept plan) (sym same ∙ is)
+        kept ∙ ap (λ b. noted b plans.kept plan) (sym same ∙ is)
         ∙ ap (λ ps. ps ++ plan ∷ []) (was.back.noted (sym same ∙ is))
         ∙ ap (λ (s : SeatCommits). s.plans) (sym committed);
   };
 }
 
 -- the seat committed nothing, and nothing was noted
-pub keeps_same : (first : SeatWithPlansView) (table : TableView) (seat after : SeatView) (ledger ledger' : PlansView)
-    → IsSession first table seat ledger → after ≡ seat → ledger'.kept ≡ ledger.kept → ledger'.prepared ≡ ledger.prepared
-    → ledger'.audited ≡ ledger.audited → IsSession first table after ledger'
-keeps_same first table seat after ledger ledger' was same kept prepared audited = record {
+pub keeps_same : (first : SeatWithPlansView) (table : TableView) (seat after : SeatView) (plans plans' : PlansView)
+    → IsSession first table seat plans → after ≡ seat → plans'.kept ≡ plans.kept → plans'.prepared ≡ plans.prepared
+    → plans'.audited ≡ plans.audited → IsSession first table after plans'
+keeps_same first table seat after plans plans' was same kept prepared audited = record {
   of = ap (λ (s : SeatView). s.lines) same ∙ was.of;
   fit = rw prepared was.fit;
   back = record {

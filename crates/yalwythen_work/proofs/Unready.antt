@@ -13,13 +13,13 @@ use Rattle.txc_table.specs.Seat.{SeatView}
 use Rattle.txc_table.specs.Table.{TableView}
 
 -- steps that are not ready fail
-pub unready : (table : TableView) (seat : SeatView) (ledger : PlansView) (steps : List Step) (kinds : List Kind)
+pub unready : (table : TableView) (seat : SeatView) (plans : PlansView) (steps : List Step) (kinds : List Kind)
     (error : TransactError)
     (before : SessionView)
-    → session_of table seat.commits ledger ≡ before → kinds ≡ table.kinds → IsCheckError kinds steps error
+    → session_of table seat.commits plans ≡ before → kinds ≡ table.kinds → IsCheckError kinds steps error
     → HasFailedWith before steps error
-unready table seat ledger steps kinds Unprepared before is same why = absurd why
-unready table seat ledger steps kinds (Unfit fault) before is same why =
-    unfits table seat ledger steps kinds fault before is same why
-unready table seat ledger steps kinds (Stalled cause) before is same why = absurd why
-unready table seat ledger steps kinds (Stopped stop) before is same why = λ other. absurd (other why)
+unready table seat plans steps kinds Unprepared before is same why = absurd why
+unready table seat plans steps kinds (Unfit fault) before is same why =
+    unfits table seat plans steps kinds fault before is same why
+unready table seat plans steps kinds (Stalled cause) before is same why = absurd why
+unready table seat plans steps kinds (Stopped stop) before is same why = λ other. absurd (other why)

@@ -36,7 +36,7 @@ pub record IsRun (decls : List Decl) (workers : ℕ) (report : Report) : Type 0 
 -- runs them on these channels gets each receipt whole and leaves the channels as the report shows them
 abbrev pub IsSerial : {W : Type 0} → List Decl → RunOutcome W → Type 0
 IsSerial decls done = (order : List Event)
-    × IsOneOrder decls (map (λ (ledger : PlansView). ledger.kept) done.plans.items) done.report order
+    × IsOneOrder decls (map (λ (plans : PlansView). plans.kept) done.plans.items) done.report order
 
 -- the summaries of a service of this number of servers on these channels, whatever they did: a report of such a run
 -- exists, and these are its summaries

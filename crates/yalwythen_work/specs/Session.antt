@@ -19,8 +19,8 @@ pub record SessionView : Type 0 where
 
 -- the invariant of a session that was made from this first seat and its plans: its seat is of the table, the prepared
 -- transactions fit the table, and the seat and the transactions are what the first ones can become
-pub record IsSession (first : SeatWithPlansView) (table : TableView) (seat : SeatView) (ledger : PlansView) : Type 0
+pub record IsSession (first : SeatWithPlansView) (table : TableView) (seat : SeatView) (plans : PlansView) : Type 0
   where
     pub of : seat.lines ≡ table.lines
-    pub fit : All (λ plan. Fits (slice_get table.kinds) plan.steps) ledger.prepared
-    pub back : IsAfterSession first (record { seat = seat; plans = ledger })
+    pub fit : All (λ plan. Fits (slice_get table.kinds) plan.steps) plans.prepared
+    pub back : IsAfterSession first (record { seat = seat; plans = plans })

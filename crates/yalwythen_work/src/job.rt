@@ -50,8 +50,8 @@ impl<R: Wait, K: Recording, W: Drop, Q> Drop for Job<'_, R, K, W, Q> {
     }
 }
 
-/// The result of a job: the seat that left the table, the worker, how the worker ended, and its transactions.
-/// `L` is the seat, and `W` is the worker.
+/// The result of a job: the seat that left the table, the worker, how the worker ended, and its transactions. `L` is
+/// the seat, and `W` is the worker.
 #[derive(Drop)]
 pub(crate) struct JobResult<L, W> {
     pub(crate) left: L,

@@ -15,8 +15,7 @@ use std::snapshot::Snapshot;
 use std::sync::Wait;
 
 // `Seat` and `Table` of `atomic_table` are no seats and tables of channels: a `Table` is a value that threads share,
-// and
-// a thread changes it by a `Seat`.
+// and a thread changes it by a `Seat`.
 
 /// The rule of a cell's table, for proofs: a full cell has what its first seat can become at a session.
 pub(crate) struct Filled<K> {
@@ -59,8 +58,8 @@ pub(crate) struct OneShot<K: Recording> {
     ghost sized: { (table.shared.table_id.words ≡ 1) × (table.shared.table_id.slots ≡ 1) },
 }
 
-/// The right to fill a cell, which is empty until then. In a contract it is the seat, with its plans, that the cell
-/// was made for.
+/// The right to fill a cell, which is empty until then. In a contract it is the seat, with its plans, that the cell was
+/// made for.
 pub(crate) struct FillPermit<'a, K: Recording> {
     cell: &'a OneShot<K>,
     seat: Seat<Option<SeatWithPlans<K>>, ()>,
@@ -75,6 +74,7 @@ impl<'a, K: Recording> Model for FillPermit<'a, K> {
 
     ghost Value = { SeatWithPlansView };
 
+    // Only for the proof: values of `Value` have a code, because the steps in them have one.
     ghost coded = { Prim.hlevel (codes, step.the_row.coded) };
 
     ghost view = { λ permit. permit.cell.now.table.shared.key.value };

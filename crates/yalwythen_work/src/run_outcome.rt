@@ -99,8 +99,7 @@ impl<W> RunOutcome<W> {
     ///
     /// Fails with `Unmet` if the report cannot be of these channels, or the transactions were not noted. Fails with
     /// `Mismatch` if the report is not what one thread would have produced, or allocation fails. It can spin, like a
-    /// push
-    /// to a broadcast channel.
+    /// push to a broadcast channel.
     pub fn audit<R: Wait>(
         &self,
         rt: &R,

@@ -80,8 +80,7 @@ pub fn run<R: Threads + Wait + Sync, W: Worker<R> + Send + Drop>(
 
 /// Runs workers like `run`, without an audit: a committed transaction leaves its receipt and is not noted.
 /// `RunOutcome::audit` of such a run returns `Unmet`, unless nothing was committed. Fails with the same errors as
-/// `run`.
-/// Blocks until all threads have ended.
+/// `run`. Blocks until all threads have ended.
 pub fn run_unaudited<R: Threads + Wait + Sync, W: Worker<R> + Send + Drop>(
     rt: &R,
     alloc: Global,

@@ -17,6 +17,7 @@ impl<K: Recording> Model for SeatWithPlans<K> {
 
     ghost Value = { SeatWithPlansView };
 
+    // Only for the proof: values of `Value` have a code, because the steps in them have one.
     ghost coded = { Prim.hlevel (codes, step.the_row.coded) };
 
     ghost view = { λ both. record { seat = both.seat; plans = both.plans } };

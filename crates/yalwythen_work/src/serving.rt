@@ -26,10 +26,10 @@ fn close<R: Wait, W: Drop>(
 ) -> Result<ServiceOutcome<W>, RunFault>
     requires many { IsOfAll ended.table.seats ended.results }
     requires back { AreAllSeats ended.table.lines ended.table.seats ended.results.left.items }
-    ensures summaries { IfOk result (λ closed.
-        IsFinishedInSummary ended.table ended.results.left.items closed.summaries) }
-    ensures each { IfOk result (λ closed. IsOfEachServer ended.table.seats closed) }
-    ensures servers { IfOk result (λ closed. closed.servers ≡ ended.results.workers) }
+    ensures summaries { IfOk result (λ outcome.
+        IsFinishedInSummary ended.table ended.results.left.items outcome.summaries) }
+    ensures each { IfOk result (λ outcome. IsOfEachServer ended.table.seats outcome) }
+    ensures servers { IfOk result (λ outcome. outcome.servers ≡ ended.results.workers) }
     ensures err { IfErr result (λ fault. fault ≡ RunFault.NoMemory) }
 {
     let EndedWorkers { table, results } = ended;
@@ -63,9 +63,9 @@ fn serve_with<R: Threads + Wait + Sync, W: Server<R> + Send + Drop>(
     servers: Vec<W>,
 ) -> Result<ServiceOutcome<W>, RunFault>
     requires unnoted { setup.audited ≡ false }
-    ensures ok { IfOk result (λ closed. IsService decls.now (vec_len servers) closed.summaries) }
-    ensures each { IfOk result (λ closed. IsOfEachServer (vec_len servers) closed) }
-    ensures came { IfOk result (λ closed. AllRelated W.Postcondition servers.items closed.servers.items) }
+    ensures ok { IfOk result (λ outcome. IsService decls.now (vec_len servers) outcome.summaries) }
+    ensures each { IfOk result (λ outcome. IsOfEachServer (vec_len servers) outcome) }
+    ensures came { IfOk result (λ outcome. AllRelated W.Postcondition servers.items outcome.servers.items) }
     ensures err { IfErr result (IsRefused decls.now (vec_len servers)) }
 {
     let ended = run_workers::<R, GhostLog, W, ServerRole>(rt, setup, decls, servers)?;
@@ -86,9 +86,9 @@ pub fn serve<R: Threads + Wait + Sync, W: Server<R> + Send + Drop>(
     decls: &[Decl],
     servers: Vec<W>,
 ) -> Result<ServiceOutcome<W>, RunFault>
-    ensures ok { IfOk result (λ closed. IsService decls.now (vec_len servers) closed.summaries) }
-    ensures each { IfOk result (λ closed. IsOfEachServer (vec_len servers) closed) }
-    ensures came { IfOk result (λ closed. AllRelated W.Postcondition servers.items closed.servers.items) }
+    ensures ok { IfOk result (λ outcome. IsService decls.now (vec_len servers) outcome.summaries) }
+    ensures each { IfOk result (λ outcome. IsOfEachServer (vec_len servers) outcome) }
+    ensures came { IfOk result (λ outcome. AllRelated W.Postcondition servers.items outcome.servers.items) }
     ensures err { IfErr result (IsRefused decls.now (vec_len servers)) }
 {
     let setup = Setup {

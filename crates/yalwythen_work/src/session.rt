@@ -40,8 +40,8 @@ use txc_table::{Ended, Gate, Seat, Table, Tried};
 use txc_txn_check::{Checked, Step, TxnFault};
 
 /// A worker's handle of the table, through the worker's own seat. Its public methods have no preconditions: each call
-/// checks the steps against the table's channels. The seat is always one of the table. When the session is dropped,
-/// its seat goes into the cell that the session was made for.
+/// checks the steps against the table's channels. The seat is always one of the table. When the session is dropped, its
+/// seat goes into the cell that the session was made for.
 pub struct Session<'a, K: Recording = FullLog> {
     alloc: Global,
     table: &'a Table<K>,
@@ -57,6 +57,7 @@ impl<'a, K: Recording> Model for Session<'a, K> {
 
     ghost Value = { SessionView };
 
+    // Only for the proof: values of `Value` have a code, because the steps in them have one.
     ghost coded = { Prim.hlevel (codes, step.the_row.coded) };
 
     ghost view = { λ session. record {

@@ -16,7 +16,7 @@ use crate::mode::Mode;
 use txc_base::{Reply, Stop};
 
 impl<K: Log> Chan<K> {
-    // Replies with a reader's next item. The form decides the result if an open channel has nothing to read.
+    // Replies with a reader's next item. The mode decides the result if an open channel has nothing to read.
     pub(super) fn peek(&self, reader: u16, mode: Mode) -> Result<Answer, Stop>
         requires { is_broadcast self.now.logged.channel.kind ≡ false → reader ≡ 0 }
         ensures ok { let c = self.now.logged.channel in (tag : Tag)

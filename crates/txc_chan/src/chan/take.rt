@@ -15,7 +15,7 @@ use crate::steps::record_takes;
 use txc_base::{Act, Entry, List, Reply, Stop, Tag};
 
 impl<K: Log> Chan<K> {
-    // Takes a reader's next item. The form decides the result if an open channel has nothing to read.
+    // Takes a reader's next item. The mode decides the result if an open channel has nothing to read.
     pub(super) fn take(&mut self, tag: Tag, reader: u16, mode: Mode) -> Result<Answer, Stop>
         requires { is_broadcast self.old.logged.channel.kind ≡ false → reader ≡ 0 }
         ensures { let c = self.old.logged.channel in

@@ -11,7 +11,7 @@ use txc_base::{Act, Entry, Origin, Reply, Stop, Tag};
 use txc_cast::Append;
 
 impl<K: Log> Chan<K> {
-    // Writes an item with this body. The form decides the result at the bound. Returns `NothingRead` if there is no
+    // Writes an item with this body. The mode decides the result at the bound. Returns `NothingRead` if there is no
     // body.
     pub(super) fn write<R: Append>(
         &mut self,

@@ -45,6 +45,7 @@ impl<K: Log, S: Receipts> Model for IdleTable<K, S> {
 
     ghost Value = { IdleTableView };
 
+    // Only for the proof: values of `Value` have a code, because the steps in them have one.
     ghost coded = { Prim.hlevel (codes, step.the_row.coded) };
 
     ghost view = { λ idle. record {
@@ -82,7 +83,7 @@ impl<K: Log> Table<K> {
         }
     }
 
-    /// Locks all channels of the table, like `into_idle`, with this room for the locks.
+    /// Locks all channels of the table, like `into_idle`, with this buffer for the locks.
     fn into_idle_in<S: Receipts, R: Wait>(
         self,
         rt: &R,
@@ -111,7 +112,7 @@ impl<K: Log, S: Receipts> IdleTable<K, S> {
         (table, left)
     }
 
-    /// Unlocks the channels, like `unlock`, and returns also the room for their locks.
+    /// Unlocks the channels, like `unlock`, and returns also the buffer for their locks.
     fn unlock_with_buffer(self) -> (Table<K>, Vec<DepartedSeat<K, S>>, LockBuffer<K>)
         ensures same { (result.0 ≡ self.table) × (result.1.items ≡ self.left) }
         ensures back { AreAllSeats self.table.lines self.table.seats self.left }

@@ -23,7 +23,7 @@ pub(super) struct LockedTable<K: Log> {
 }
 
 impl<K: Log> LockedTable<K> {
-    /// Unlocks the lines, and returns the table with the room for its locks.
+    /// Unlocks the lines, and returns the table with the buffer for its locks.
     pub(super) fn unlock(self) -> (Table<K>, LockBuffer<K>)
         requires { IsValidTable K.shelves (lines_of self.lines) self.shelves self.kinds self.table_seats.seats }
         ensures same { result.0 ≡ record {

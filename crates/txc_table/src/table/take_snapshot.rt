@@ -1,4 +1,4 @@
-// What a table tells a seat of a channel.
+// Snapshots of a channel, for a seat.
 ghost use Rattle.std.specs.Prelude.{◌≡◌, ◌<◌, length, IfOk, IfErr, OnErr};
 ghost use Rattle.txc_chan.specs.Chan.{summary_of};
 ghost use Rattle.txc_table_line.specs.Account.{IsSnapshotOf};

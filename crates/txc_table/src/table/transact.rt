@@ -27,8 +27,7 @@ use txc_table_seat::Receipts;
 use txc_txn::Checked;
 
 /// How many tries a seat makes before it registers at the wait queue, because another thread may be about to change
-/// what
-/// it waits for.
+/// what it waits for.
 const EARLY_TRIES: u32 = 3;
 
 /// How many turns of a spin loop a seat makes between these tries, in about half a microsecond.
@@ -99,8 +98,7 @@ impl<K: Log> Table<K> {
 
     /// Tries a transaction until it commits, or until a wait ends without a notification. Then it returns `Retry` with
     /// the cause of the last try. The deadline determines what that means: a stall for `NoDeadline`, and that the time
-    /// has
-    /// passed for `UntilInstant`.
+    /// has passed for `UntilInstant`.
     fn transact_for<S: Receipts, R: Wait, W: Deadline>(
         &self,
         rt: &R,
@@ -134,7 +132,7 @@ impl<K: Log> Table<K> {
         tried
     }
 
-    /// Makes the later tries of `transact_for` on these terms. The seat stays registered at the wait queue.
+    /// Makes the later tries of `transact_for` with these options. The seat stays registered at the wait queue.
     fn try_until_kept<S: Receipts, R: Wait, W: Deadline>(
         &self,
         rt: &R,

@@ -13,10 +13,9 @@ use txc_chan::{Append, Chan, Log};
 
 impl<K: Log> LineChan<K> {
     /// Commits a write or a read at once, like `Chan::commit`, and counts its entry in the ledger and in the shares.
-    /// The
-    /// channel gets the tag's stamp, which must be later than its own, and one more mark. Returns the act, or `None` if
-    /// there is none. Fails only if an allocation fails. If there is no act, nothing is changed. It blocks only if the
-    /// handle permits it, on a broadcast channel.
+    /// The channel gets the tag's stamp, which must be later than its own, and one more mark. Returns the act, or
+    /// `None` if there is none. Fails only if an allocation fails. If there is no act, nothing is changed. It blocks
+    /// only if the handle permits it, on a broadcast channel.
     pub fn commit<R: Append>(
         &mut self,
         rt: &R,

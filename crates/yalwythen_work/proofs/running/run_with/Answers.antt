@@ -30,9 +30,9 @@ returns-in-Ok-finish-clause-serial g c audited =
     c.in-Ok-finish.ensures.finished) in
     let seats = vec_len c.args.workers in
     let all : length left ≡ seats = sym ended.results.left.ok.0 ∙ c.in_ok-ended.ensures.len.0 in
-    let ledgers : length ended.results.plans.items ≡ seats = sym ended.results.plans.ok.0
+    let lists : length ended.results.plans.items ≡ seats = sym ended.results.plans.ok.0
     ∙ c.in_ok-ended.ensures.len.3 in
     serial c.args.decls.now seats left ended.results.plans.items report
     (on_declared ended.table c.args.decls.now seats built.0 left report built.1 is)
-    (is.its_report.seated ∙ built.1.its_seats) all ledgers c.in_ok-ended.ensures.numbered
+    (is.its_report.seated ∙ built.1.its_seats) all lists c.in_ok-ended.ensures.numbered
     (c.in_ok-ended.ensures.noted audited)

@@ -67,7 +67,8 @@ invariant_of-seat-2 g c =
     c.reserve.ensures.same in
     let channels : c.keep-number.new.self.channels ≡ c.seat.inside.history.channels =
     c.keep-number.ensures.channels ∙ c.reserve.ensures.channels in
-    subst (λ n. IsSeated c.run.new.shares c.keep-number.new.self.commits n c.seat.inside.table_share.parts) (sym channels)
+    subst (λ n. IsSeated c.run.new.shares c.keep-number.new.self.commits n c.seat.inside.table_share.parts)
+    (sym channels)
     (seated_more c.next_tag-receipt.result c.args.checked.now c.seat.inside.shares c.run.new.shares
     c.seat.inside.history.commits c.keep-number.new.self.commits r c.seat.invariant kept c.run.ensures.lines
     (c.next_tag-receipt.ensures ∙ ap next_tag c.reserve.ensures.same)
