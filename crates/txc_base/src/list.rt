@@ -7,6 +7,7 @@ use std::marker::Model;
 use std::{slice, vec};
 
 mod pair;
+mod single;
 
 /// A list of values. A contract sees it as the list itself, even inside a field or a variant.
 #[derive(Debug, Clone, Drop)]

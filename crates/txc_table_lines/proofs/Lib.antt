@@ -6,7 +6,9 @@ pub mod Sweeping
 pub mod Committing
 pub mod Mapping
 pub mod OneCommit
+pub mod MoveCommit
 pub mod TwoCommit
+pub mod ThreeCommit
 pub mod Locking
 pub mod Unlocking
 pub mod Collecting

@@ -29,7 +29,7 @@ use Rattle.txc_txn.specs.Maps.{Map, put_at}
 use Rattle.txc_txn.specs.Run.{RanSettled}
 use Rattle.txc_txn.specs.Transaction.{greatest, is_worn, kept_tag, transaction}
 use Rattle.txc_txn.specs.TwoOperations.{lower_first, move_steps, pair_of}
-use Rattle.txc_txn.proofs.TwoOperations.{HasTaken, both_contain, greatest_of_both, has_moved, has_taken}
+use Rattle.txc_txn.proofs.TwoOperations.{both_contain, greatest_of_both}
 use Rattle.txc_txn.proofs.TwoOperations.{only_both, put_elsewhere, put_here, read_no_pair, read_waits, worn_no_pair}
 use Rattle.txc_txn.proofs.TwoOperations.{write_no_pair, write_waits}
 use Rattle.txc_table_lines.specs.Committed.{AreCommitted, CountsCommit, IsSettled}
@@ -38,8 +38,9 @@ use Rattle.txc_table_lines.specs.Guards.{IsReady, known_of}
 use Rattle.txc_table_lines.specs.Lines.{AreValidShares, share_at}
 use Rattle.txc_table_lines.specs.OneOperation.{AreKnown}
 use Rattle.txc_table_lines.specs.TwoOperations.{IsCommittedMove, IsNoMove, MustRetryMove}
-use Rattle.txc_table_lines.proofs.Committing.{can_commit, is_marked}
-use Rattle.txc_table_lines.proofs.OneCommit.{IsFound, each_put, found_logged, its_mark, share_other}
+use Rattle.txc_table_lines.proofs.Committing.{can_commit}
+use Rattle.txc_table_lines.proofs.MoveCommit.{committed_as, committed_on, takes}
+use Rattle.txc_table_lines.proofs.OneCommit.{IsFound, each_put, found_logged, share_other}
 use Rattle.txc_table_lines.proofs.Sharing.{begins_itself, begins_more}
 use Rattle.txc_table_lines.proofs.Taking.{known_since}
 
@@ -71,13 +72,13 @@ module _ (from to : ℕ) (s t : Logged) (shares : List SeatShareView) (apart : f
   abbrev found : Map
   found = found_both shares from to s t
 
-  source_at : found from ≡ s
+  pub source_at : found from ≡ s
   source_at = put_elsewhere (put_at (known_of shares) from s) to from t apart ∙ put_here (known_of shares) from s
 
-  target_at : found to ≡ t
+  pub target_at : found to ≡ t
   target_at = put_here (put_at (known_of shares) from s) to t
 
-  are_known : AreValidShares shares → IsFound (share_at shares from) s → IsFound (share_at shares to) t
+  pub are_known : AreValidShares shares → IsFound (share_at shares from) s → IsFound (share_at shares to) t
       → AreKnown shares found
   are_known are source target = record {
     known = each_put (λ k x. k < length shares → IsKnown (share_at shares k).line.decl (share_at shares k).amount x)
@@ -146,7 +147,7 @@ pub worn_move : (tag : Tag) (from reader to : ℕ) (s t : Logged) (shares : List
 worn_move tag from reader to s t shares are apart source target worn = record {
   found = found_both shares from to s t;
   are = are_known from to s t shares apart are source target;
-  not = worn_no_pair (found_both shares from to s t) tag from reader to
+  not = worn_no_pair (found_both shares from to s t) tag (lower_first from to) from reader to
       (worn_is from to s t shares apart tag true worn);
 }
 
@@ -161,7 +162,8 @@ read_none tag kept from reader to s t shares are b none =
     record {
       found = m;
       are = begins_known tag kept from to s t shares are b;
-      not = read_no_pair m tag kept from reader to (tag_is from to s t shares b.apart tag kept b.tagged)
+      not = read_no_pair m tag kept (lower_first from to) from reader to
+          (tag_is from to s t shares b.apart tag kept b.tagged)
           (worn_is from to s t shares b.apart tag false b.rises)
           (subst (λ (x : Logged). (item : Item) (left : Logged)
           → op_on x kept None (Read from reader) ≡ Left (Got item) left → ⊥)
@@ -177,7 +179,8 @@ read_retries tag kept from reader to s t shares cause are b waits =
     record {
       found = m;
       are = begins_known tag kept from to s t shares are b;
-      again = read_waits m tag from reader to cause (worn_is from to s t shares b.apart tag false b.rises)
+      again = read_waits m tag (lower_first from to) from reader to cause
+          (worn_is from to s t shares b.apart tag false b.rises)
           (subst (λ (x : Logged). operate x.channel tag.seat None (Read from reader) ≡ Waits cause)
           (sym (source_at from to s t shares b.apart))
           (subst (λ n. operate s.channel n None (Read from reader) ≡ Waits cause)
@@ -195,7 +198,7 @@ write_retries tag kept from reader to item s mid t shares cause are b took waits
     record {
       found = m;
       are = begins_known tag kept from to s t shares are b;
-      again = write_waits m tag kept from reader to item mid cause b.apart
+      again = write_waits m tag kept (lower_first from to) from reader to item mid cause b.apart
           (tag_is from to s t shares b.apart tag kept b.tagged)
           (worn_is from to s t shares b.apart tag false b.rises)
           (subst (λ (x : Logged). op_on x kept None (Read from reader) ≡ Left (Got item) mid)
@@ -214,26 +217,13 @@ write_none tag kept from reader to item s mid t shares are b took none =
     record {
       found = m;
       are = begins_known tag kept from to s t shares are b;
-      not = write_no_pair m tag kept from reader to item mid b.apart
+      not = write_no_pair m tag kept (lower_first from to) from reader to item mid b.apart
           (tag_is from to s t shares b.apart tag kept b.tagged)
           (worn_is from to s t shares b.apart tag false b.rises)
           (subst (λ (x : Logged). op_on x kept None (Read from reader) ≡ Left (Got item) mid)
           (sym (source_at from to s t shares b.apart)) took)
           (subst (λ (x : Logged). HasNoAct (operate x.channel tag.seat None (Write to (Lit item.body))))
           (sym (target_at from to s t shares b.apart)) none);
-    }
-
--- a channel from which a read took an item
-takes : (kept : Tag) (from reader : ℕ) (item : Item) (s mid : Logged)
-    → op_on s kept None (Read from reader) ≡ Left (Got item) mid → Grows kept s mid
-takes kept from reader item s mid took =
-    let taken = has_taken s mid kept from reader item took in
-    record {
-      acts = Took reader item ∷ [];
-      log = ap (λ (x : Logged). x.log) taken.grew;
-      pending = ap (λ (x : Logged). x.pending) taken.grew;
-      stamp = ap (λ (x : Logged). x.stamp) taken.grew;
-      decl = ap (λ (x : Logged). x.decl) taken.grew;
     }
 
 -- it can be settled
@@ -244,25 +234,9 @@ ready_to_settle tag kept from reader to item s mid t shares b took =
     can_commit kept s mid (takes kept from reader item s mid took) b.source.known.clean
     (omega (arith, ap (λ (x : Tag). x.stamp) b.tagged))
 
--- the entry at the end of a log
-get_last : (es : List Entry) (e : Entry) → slice_get (es ++ e ∷ []) (length es) ≡ Some e
-get_last [] e = refl
-get_last (x ∷ es) e = get_last es e
-
--- how the acts of a move count
-counts_at : (a b : ℕ) → a ≢ b → one_if (nat_eq a b) ≡ 0
-counts_at a b ne = elim (eqb_tells a b) [ inl t ↦ absurd (ne t.1) | inr t ↦ ap one_if t.0 ]
-
-counts_here : (a : ℕ) → one_if (nat_eq a a) ≡ 1
-counts_here a = elim (eqb_tells a a) [ inl t ↦ ap one_if t.0 | inr t ↦ absurd (t.1 refl) ]
-
 module _ (tag kept : Tag) (from reader to : ℕ) (item : Item) (act : Act) (s mid s' t t' : Logged)
     (shares between after : List SeatShareView)
     (has : HasMoved tag kept from reader to item act s mid s' t t' shares between after) where
-  abbrev receipt : Receipt
-  receipt = pair_of kept (record { chan = from; place = length s.log; act = Took reader item })
-      (record { chan = to; place = length t.log; act = act })
-
   abbrev m : Map
   m = found_both shares from to s t
 
@@ -271,12 +245,6 @@ module _ (tag kept : Tag) (from reader to : ℕ) (item : Item) (act : Act) (s mi
 
   apart : from ≢ to
   apart = has.begins.apart
-
-  left_from : left from ≡ s'
-  left_from = put_elsewhere (put_at m from s') to from t' apart ∙ put_here m from s'
-
-  left_to : left to ≡ t'
-  left_to = put_here (put_at m from s') to t'
 
   between_from : share_at between from ≡ share_at shares from
   between_from = ap (λ (xs : List SeatShareView). share_at xs from) has.first
@@ -292,146 +260,39 @@ module _ (tag kept : Tag) (from reader to : ℕ) (item : Item) (act : Act) (s mi
       ∙ ap (λ (xs : List SeatShareView). share_at xs n) has.first
       ∙ share_other shares to n (share_at between to) out
 
-  taken : HasTaken s mid kept reader item (operate s.channel kept.seat None (Read from reader))
-  taken = has_taken s mid kept from reader item has.took
+  off_from : (n : ℕ) → ¬ Contains (lower_first from to) n → n ≢ from
+  off_from n none e = none (subst (Contains (lower_first from to)) (sym e) (both_contain from to).0)
 
-  settles : IsSettled kept mid (share_at shares from) s' (share_at after from)
-  settles = subst (λ (x : SeatShareView). IsSettled kept mid x s' (share_at after from)) between_from has.settles
+  off_to : (n : ℕ) → ¬ Contains (lower_first from to) n → n ≢ to
+  off_to n none e = none (subst (Contains (lower_first from to)) (sym e) (both_contain from to).1)
 
-  counts : CountsOne t t' kept (share_at shares to) (share_at after to)
-  counts = subst (λ (x : SeatShareView). CountsOne t t' kept (share_at shares to) x) (sym after_to) has.counts
-
-  source_counts : CountsCommit s s' receipt (share_at shares from) (share_at after from) from
-  source_counts = record {
-    line = settles.line;
-    amount = omega (
-      arith,
-      settles.amount,
-      ap (λ (x : Logged). x.pending) taken.grew,
-      has.begins.source.known.clean,
-      counts_here from,
-      counts_at to from (λ e. apart (sym e)),
-    );
-    log = settles.log ∙ ap (λ (x : Logged). x.log) (sym settles.settled);
-    made = settles.made;
-    marked = is_marked kept s mid s' (share_at shares from).marks (share_at after from).marks
-        (takes kept from reader item s mid has.took) has.begins.source.known.clean settles.settled settles.marked;
-  }
-
-  target_counts : CountsCommit t t' receipt (share_at shares to) (share_at after to) to
-  target_counts = record {
-    line = counts.line;
-    amount = omega (arith, counts.amount, counts_here to, counts_at from to apart);
-    log = counts.log;
-    made = counts.made;
-    marked = its_mark t t' kept (share_at shares to).marks (share_at after to).marks has.begins.target.known.clean
-        counts.marked;
-  }
-
-  source_log : (share_at after from).log ≡ s.log ++ record { tag = kept; act = Took reader item } ∷ []
-  source_log = settles.log ∙ ap (λ (x : Logged). x.log) taken.grew
-
-  target_log : (share_at after to).log ≡ t.log ++ record { tag = kept; act = act } ∷ []
-  target_log = counts.log ∙ ap (λ (x : Logged). x.log) has.wrote.settles
-
-  committed_at : (n : ℕ) → AreCommitted (lower_first from to) m left receipt shares after n
-  committed_at n = record {
-    inside = λ is. ⊎_elim
-        (λ e. subst (λ k. CountsCommit (m k) (left k) receipt (share_at shares k) (share_at after k) k) (sym e)
-        (subst (λ (x : Logged). CountsCommit x (left from) receipt (share_at shares from) (share_at after from) from)
-        (sym (source_at from to s t shares apart))
-        (subst (λ (x : Logged). CountsCommit s x receipt (share_at shares from) (share_at after from) from)
-        (sym left_from) source_counts)))
-        (λ e. subst (λ k. CountsCommit (m k) (left k) receipt (share_at shares k) (share_at after k) k) (sym e)
-        (subst (λ (x : Logged). CountsCommit x (left to) receipt (share_at shares to) (share_at after to) to)
-        (sym (target_at from to s t shares apart))
-        (subst (λ (x : Logged). CountsCommit t x receipt (share_at shares to) (share_at after to) to)
-        (sym left_to) target_counts)))
-        (only_both from to n is);
-    outside = λ not. after_other n
-        (λ e. not (subst (Contains (lower_first from to)) (sym e) (both_contain from to).0))
-        (λ e. not (subst (Contains (lower_first from to)) (sym e) (both_contain from to).1));
-  }
-
-  grew_at : (n : ℕ) → IsPrefix (share_at shares n).log (share_at after n).log
-  grew_at n = elim (eqb_tells n from) [
-    | inl e ↦
-        subst (λ k. IsPrefix (share_at shares k).log (share_at after k).log) (sym e.1)
-        (begins_more (share_at shares from).log s.log (record { tag = kept; act = Took reader item } ∷ [])
-        (share_at after from).log has.begins.source.since source_log)
-    | inr off ↦
-        elim (eqb_tells n to) [
-          | inl e ↦
-              subst (λ k. IsPrefix (share_at shares k).log (share_at after k).log) (sym e.1)
-              (begins_more (share_at shares to).log t.log (record { tag = kept; act = act } ∷ [])
-              (share_at after to).log has.begins.target.since target_log)
-          | inr out ↦
-              subst (λ (x : SeatShareView). IsPrefix (share_at shares n).log x.log) (sym (after_other n off.1 out.1))
-              (begins_itself (share_at shares n).log)
-        ]
-  ]
-
-  stands : (i : ℕ) (deed : Deed) → slice_get receipt.acts i ≡ Some deed
-      → slice_get (share_at after deed.chan).log deed.place ≡ Some (record { tag = kept; act = deed.act })
-  stands zero deed here =
-      let same : record { chan = from; place = length s.log; act = Took reader item } ≡ deed = cc in
-      subst (λ (d : Deed). slice_get (share_at after d.chan).log d.place ≡ Some (record { tag = kept; act = d.act }))
-      same
-      (ap (λ es. slice_get es (length s.log)) source_log ∙ get_last s.log _)
-  stands (suc zero) deed here =
-      let same : record { chan = to; place = length t.log; act = act } ≡ deed = cc in
-      subst (λ (d : Deed). slice_get (share_at after d.chan).log d.place ≡ Some (record { tag = kept; act = d.act }))
-      same
-      (ap (λ es. slice_get es (length t.log)) target_log ∙ get_last t.log _)
-  stands (suc (suc i)) deed here = cc
-
-  rises : (i j : ℕ) (one other : Deed) → i < j → slice_get receipt.acts i ≡ Some one
-      → slice_get receipt.acts j ≡ Some other → one.chan ≡ other.chan → one.place < other.place
-  rises i zero one other lt here there same = absurd (omega (arith, lt))
-  rises zero (suc zero) one other lt here there same =
-      let first : record { chan = from; place = length s.log; act = Took reader item } ≡ one = cc in
-      let second : record { chan = to; place = length t.log; act = act } ≡ other = cc in
-      absurd (apart (ap (λ (d : Deed). d.chan) first ∙ same ∙ ap (λ (d : Deed). d.chan) (sym second)))
-  rises (suc i) (suc zero) one other lt here there same = absurd (omega (arith, lt))
-  rises i (suc (suc j)) one other lt here there same = cc
-
-  left_rest : (n : ℕ) → n ≢ from → n ≢ to → left n ≡ m n
-  left_rest n off out = put_elsewhere (put_at m from s') to n t' out ∙ put_elsewhere m from n s' off
-
-  pub committed_move : AreValidShares shares → IsCommittedMove tag from reader to shares after receipt
-  committed_move are = record {
-    found = m;
-    left = left;
-    are = begins_known tag kept from to s t shares are has.begins;
-    ran = subst (λ (x : Logged). RanSettled (kept_tag m tag (lower_first from to)) (lower_first from to)
-        (transaction m tag (lower_first from to) (move_steps from reader to))
-        (RanKept (pair_of kept (record { chan = from; place = length x.log; act = Took reader item })
-        (record { chan = to; place = length t.log; act = act }))) m left) (source_at from to s t shares apart)
-        (subst (λ (x : Logged). RanSettled (kept_tag m tag (lower_first from to)) (lower_first from to)
-        (transaction m tag (lower_first from to) (move_steps from reader to))
-        (RanKept (pair_of kept (record { chan = from; place = length (m from).log; act = Took reader item })
-        (record { chan = to; place = length x.log; act = act }))) m left) (target_at from to s t shares apart)
-        (has_moved m left tag kept from reader to item act mid
-        (tag_is from to s t shares apart tag kept has.begins.tagged) (record {
-          apart = apart;
-          rises = worn_is from to s t shares apart tag false has.begins.rises;
-          took = subst (λ (x : Logged). op_on x kept None (Read from reader) ≡ Left (Got item) mid)
-              (sym (source_at from to s t shares apart)) has.took;
-          source = left_from ∙ settles.settled;
-          wrote = subst (λ (x : Logged). IsCommittedOp kept (Write to (Lit item.body)) act x (left to))
-              (sym (target_at from to s t shares apart))
-              (subst (λ (x : Logged). IsCommittedOp kept (Write to (Lit item.body)) act t x) (sym left_to) has.wrote);
-          others = left_rest;
-        })));
-    committed = committed_at;
-    grew = grew_at;
-    stand = stands;
-    inside = λ n not. omega (
-      arith,
-      counts_at from n
-          (λ e. not (subst (Contains (lower_first from to)) e (both_contain from to).0)),
-      counts_at to n (λ e. not (subst (Contains (lower_first from to)) e (both_contain from to).1)),
-    );
-    rise = rises;
-    later = omega (arith, ap (λ (x : Tag). x.stamp) has.begins.tagged);
-  }
+  pub committed_move : AreValidShares shares
+      → IsCommittedMove tag from reader to shares after (pair_of kept
+      (record { chan = from; place = length s.log; act = Took reader item })
+      (record { chan = to; place = length t.log; act = act }))
+  committed_move are = committed_as tag (lower_first from to) (move_steps from reader to) m left shares after
+      (pair_of kept (record { chan = from; place = length s.log; act = Took reader item })
+      (record { chan = to; place = length t.log; act = act })) (begins_known tag kept from to s t shares are has.begins)
+      (committed_on tag kept (lower_first from to) from reader to item act s mid s' t t' m left shares after (record {
+        apart = apart;
+        here = (both_contain from to).0;
+        there = (both_contain from to).1;
+        found_from = source_at from to s t shares apart;
+        found_to = target_at from to s t shares apart;
+        left_from = put_elsewhere (put_at m from s') to from t' apart ∙ put_here m from s';
+        left_to = put_here (put_at m from s') to t';
+        source = has.begins.source;
+        target = has.begins.target;
+        rises = worn_is from to s t shares apart tag false has.begins.rises;
+        tagged = tag_is from to s t shares apart tag kept has.begins.tagged;
+        took = has.took;
+        wrote = has.wrote;
+        counts = subst (λ (x : SeatShareView). CountsOne t t' kept (share_at shares to) x) (sym after_to) has.counts;
+        settles = subst (λ (x : SeatShareView). IsSettled kept mid x s' (share_at after from)) between_from
+            has.settles;
+        aside = λ n off out is. absurd (⊎_elim off out (only_both from to n is));
+        outside = λ n none. (
+          put_elsewhere (put_at m from s') to n t' (off_to n none) ∙ put_elsewhere m from n s' (off_from n none),
+          after_other n (off_from n none) (off_to n none),
+        );
+      }))

@@ -3,5 +3,6 @@ pub mod Guards
 pub mod Committed
 pub mod OneOperation
 pub mod TwoOperations
+pub mod Choice
 pub mod Locked
 pub mod Accounted

@@ -1,7 +1,8 @@
--- A transaction that moves an item from one line to another one, and is committed at once.
+-- Transactions that move an item from one line to another one, and are committed at once.
 use Rattle.std.specs.Prelude.{◌≡◌, ◌<◌, ℕ, List}
 use Rattle.txc_base.specs.declared.cause.Cause.{Cause}
 use Rattle.txc_base.specs.declared.tag.Tag.{Tag}
+use Rattle.txc_txn_check.specs.declared.step.Step.{Step}
 use Rattle.txc_txn.specs.declared.ran.Ran.TheVariants.{Kept as RanKept}
 use Rattle.txc_txn.specs.declared.receipt.Receipt.{Receipt}
 use Rattle.txc_txn.specs.InLog.{ReceiptIsInLog}
@@ -14,29 +15,41 @@ use Rattle.txc_table_lines.specs.Committed.{AreCommitted, HasNoneOutside}
 use Rattle.txc_table_lines.specs.Lines.{OnlyGrew, share_at}
 use Rattle.txc_table_lines.specs.OneOperation.{AreKnown}
 
--- the transaction of a move between these channels was committed with this receipt, on channels that the seat may find
-pub record IsCommittedMove (tag : Tag) (from reader to : ℕ) (before after : List SeatShareView) (receipt : Receipt)
+-- the transaction of these steps was committed with this receipt, on channels that the seat may find
+pub record IsCommittedAs (tag : Tag) (declared : List ℕ) (steps : List Step) (before after : List SeatShareView)
+    (receipt : Receipt)
     : Type 0 where
   pub found : Map
   pub left : Map
   pub are : AreKnown before found
-  pub ran : RanSettled (kept_tag found tag (lower_first from to)) (lower_first from to)
-      (transaction found tag (lower_first from to) (move_steps from reader to)) (RanKept receipt) found left
-  pub committed : (n : ℕ) → AreCommitted (lower_first from to) found left receipt before after n
+  pub ran : RanSettled (kept_tag found tag declared) declared (transaction found tag declared steps) (RanKept receipt)
+      found left
+  pub committed : (n : ℕ) → AreCommitted declared found left receipt before after n
   pub grew : OnlyGrew before after
   pub stand : ReceiptIsInLog (λ n. (share_at after n).log) receipt
-  pub inside : HasNoneOutside (lower_first from to) receipt
+  pub inside : HasNoneOutside declared receipt
   pub rise : PlacesRise receipt
   pub later : tag.stamp < receipt.tag.stamp
 
--- on channels that the seat may find, the transaction of a move must be retried, for this cause
-pub record MustRetryMove (tag : Tag) (from reader to : ℕ) (shares : List SeatShareView) (cause : Cause) : Type 0 where
+-- on channels that the seat may find, the transaction of these steps must be retried, for this cause
+pub record MustRetryAs (tag : Tag) (declared : List ℕ) (steps : List Step) (shares : List SeatShareView) (cause : Cause)
+    : Type 0 where
   pub found : Map
   pub are : AreKnown shares found
-  pub again : transaction found tag (lower_first from to) (move_steps from reader to) ≡ Again cause
+  pub again : transaction found tag declared steps ≡ Again cause
 
--- on channels that the seat may find, the transaction of a move does not commit with two acts
-pub record IsNoMove (tag : Tag) (from reader to : ℕ) (shares : List SeatShareView) : Type 0 where
+-- on channels that the seat may find, the transaction of these steps does not commit with two acts
+pub record IsNoPairAs (tag : Tag) (declared : List ℕ) (steps : List Step) (shares : List SeatShareView) : Type 0 where
   pub found : Map
   pub are : AreKnown shares found
-  pub not : IsNoPair (transaction found tag (lower_first from to) (move_steps from reader to))
+  pub not : IsNoPair (transaction found tag declared steps)
+
+-- .. of a move between two channels
+abbrev pub IsCommittedMove : Tag → ℕ → ℕ → ℕ → List SeatShareView → List SeatShareView → Receipt → Type 0
+IsCommittedMove tag from reader to = IsCommittedAs tag (lower_first from to) (move_steps from reader to)
+
+abbrev pub MustRetryMove : Tag → ℕ → ℕ → ℕ → List SeatShareView → Cause → Type 0
+MustRetryMove tag from reader to = MustRetryAs tag (lower_first from to) (move_steps from reader to)
+
+abbrev pub IsNoMove : Tag → ℕ → ℕ → ℕ → List SeatShareView → Type 0
+IsNoMove tag from reader to = IsNoPairAs tag (lower_first from to) (move_steps from reader to)

@@ -5,6 +5,7 @@
 #![tactic(auto)]
 
 mod accounts;
+mod choice;
 mod collected_shares;
 mod guards;
 mod hold;
@@ -17,6 +18,7 @@ mod opening;
 mod seat_shares;
 mod two_operations;
 
+pub use choice::Choice;
 pub use collected_shares::CollectedShares;
 pub use guards::Guards;
 pub use lines::Lines;

@@ -1,16 +1,13 @@
 // A transaction that moves an item from one line to another one.
-ghost use Rattle.std.specs.Prelude.{◌≡◌, ◌≢◌, ◌<◌, None, true, length, slice_set, IfErr, IfNone, IfOk, IfSome, OnErr};
+ghost use Rattle.std.specs.Prelude.{◌≡◌, ◌≢◌, ◌<◌, None, true, length, slice_set, IfErr, IfOk, OnErr};
 ghost use Rattle.txc_base.specs.declared.cause.Cause.{Cause as Causes};
 ghost use Rattle.txc_base.specs.declared.item.Item.{Item as Items};
 ghost use Rattle.txc_base.specs.declared.op.Op.TheVariants.{Read, Write};
 ghost use Rattle.txc_base.specs.declared.reply.Reply.TheVariants.{Got};
 ghost use Rattle.txc_base.specs.declared.source.Source.TheVariants.{Last};
 ghost use Rattle.txc_base.specs.Kinds.{supports};
-ghost use Rattle.txc_base.specs.Op.{chan_of};
 ghost use Rattle.txc_base.specs.Operation.{Waits, operate};
-ghost use Rattle.txc_chan.specs.Committed.{HasNoAct, IsCommittedOp, is_read_or_write};
 ghost use Rattle.txc_chan.specs.Logged.{Left, Logged, op_on};
-ghost use Rattle.txc_table_line.specs.Commit.{CountsOne};
 ghost use Rattle.txc_table_lines.specs.Committed.{IsSettled};
 ghost use Rattle.txc_table_lines.specs.Guards.{IsFound, IsReady};
 ghost use Rattle.txc_table_lines.specs.Lines.{line_ids, share_at};
@@ -18,7 +15,7 @@ ghost use Rattle.txc_table_lines.specs.TwoOperations.{IsCommittedMove, IsNoMove,
 
 use crate::guards::take_line;
 use crate::lines::Lines;
-use crate::one_operation::AtOnce;
+use crate::one_operation::{AtOnce, without_act};
 use crate::seat_shares::SeatShares;
 use std::alloc::AllocError;
 use std::sync::Wait;
@@ -28,7 +25,7 @@ use txc_table_line::LineGuard;
 use txc_txn::{Deed, Receipt, tag_after};
 
 /// How often a thread tries for each of the two locks before it queues for it, as for the locks of any transaction.
-const TRIES: u32 = 12;
+pub(crate) const TRIES: u32 = 12;
 
 /// A read, and a write of the body that was read to another channel.
 #[derive(Clone, Copy)]
@@ -44,7 +41,7 @@ pub struct Move {
 /// Locks the two lines of a move, the lower one first, so that no two threads wait for each other. Returns the line
 /// that is read, and then the other one. It blocks while another thread has one of the locks, and does not allocate.
 #[inline(always)]
-fn take_both<'a, R: Wait, K: Log>(
+pub(crate) fn take_both<'a, R: Wait, K: Log>(
     rt: &R,
     lines: &'a Lines<K>,
     what: Move,
@@ -82,7 +79,7 @@ fn release<K: Log>(what: Move, source: LineGuard<'_, K>, target: LineGuard<'_, K
 /// Takes an item by a read, which can be undone. Returns how the transaction ends if there is none. Fails only if an
 /// allocation fails. It allocates, and blocks only if the handle permits it.
 #[inline(always)]
-fn take_item<R: Wait, K: Log>(
+pub(crate) fn take_item<R: Wait, K: Log>(
     rt: &R,
     source: &mut LineGuard<'_, K>,
     tag: Tag,
@@ -109,58 +106,11 @@ fn take_item<R: Wait, K: Log>(
     }
 }
 
-/// Returns how a transaction ends whose write has no act. It never blocks and does not allocate.
-#[inline(always)]
-fn without_act<K: Log>(target: &mut LineGuard<'_, K>, write: &Op) -> AtOnce
-    requires supports { supports target.old.held.logged.decl.kind write.now ≡ true }
-    ensures waits { (seat : _) (cause : Causes) → result ≡ AtOnce.MustRetry cause
-        → operate target.old.held.logged.channel seat None write.now ≡ Waits cause }
-    ensures left { result ≢ AtOnce.Committed }
-    ensures same { target.new ≡ target.old }
-{
-    match target.cause_to_wait(write) {
-        Some(cause) => AtOnce::MustRetry(cause),
-        None => AtOnce::NotDone,
-    }
-}
-
 impl<K: Log> SeatShares<K> {
-    /// Commits a write at once on its line, as `LockedLine::commit` does, and counts it in the seat's share.
-    #[inline(always)]
-    fn commit_write<R: Wait>(
-        &mut self,
-        rt: &R,
-        target: &mut LineGuard<'_, K>,
-        tag: Tag,
-        write: &Op,
-    ) -> Result<Option<Act>, AllocError>
-        requires there { chan_of write.now < length self.old }
-        requires line { target.old.line ≡ (share_at self.old (chan_of write.now)).line }
-        requires clean { target.old.held.logged.pending ≡ 0 }
-        requires later { target.old.held.logged.stamp < tag.stamp }
-        requires supports { supports target.old.held.logged.decl.kind write.now ≡ true }
-        ensures done { IfOk result (λ found. IfSome found (λ act.
-            IsCommittedOp tag write.now act target.old.held.logged target.new.held.logged)) }
-        ensures none { is_read_or_write write.now ≡ true → IfOk result (λ found. IfNone found
-            (HasNoAct (operate target.old.held.logged.channel tag.seat None write.now))) }
-        ensures counts { let n = chan_of write.now in IfOk result (λ found. IfSome found (λ act.
-            CountsOne target.old.held.logged target.new.held.logged tag (share_at self.old n) (share_at self.new n))) }
-        ensures others { let n = chan_of write.now in self.new ≡ slice_set self.old n (share_at self.new n) }
-        ensures lines { line_ids self.new ≡ line_ids self.old }
-        ensures left { IfOk result (λ found. IfNone found
-            ((target.new.held.logged ≡ target.old.held.logged) × (self.new ≡ self.old))) }
-        ensures unchanged { OnErr result (self.new ≡ self.old) }
-    {
-        let share = &mut self.shares[usize::from(write.chan())];
-        let found = target.commit(rt, share, tag, write);
-        share.show();
-        found
-    }
-
     /// Commits what can be undone on the line with this number, as `LockedLine::settle` does, and counts it in the
     /// seat's share.
     #[inline(always)]
-    fn settle_read(&mut self, number: u16, source: &mut LineGuard<'_, K>, tag: Tag)
+    pub(crate) fn settle_line(&mut self, number: u16, source: &mut LineGuard<'_, K>, tag: Tag)
         requires there { number < length self.old }
         requires line { source.old.line ≡ (share_at self.old number).line }
         requires ready { IsReady tag.stamp source.old.held.logged }
@@ -228,11 +178,11 @@ impl<K: Log> SeatShares<K> {
         let place = target.log_len();
         let body = Source::Lit(item.body);
         let write = Op::Write { chan: to, body };
-        let Some(act) = self.commit_write(rt, &mut target, tag, &write)? else {
+        let Some(act) = self.commit_op(rt, &mut target, tag, &write)? else {
             // The next thread that locks the source undoes the read.
             return Ok(without_act(&mut target, &write));
         };
-        self.settle_read(from, &mut source, tag);
+        self.settle_line(from, &mut source, tag);
         release(what, source, target);
         let wrote = Deed {
             chan: to,

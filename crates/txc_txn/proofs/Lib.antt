@@ -17,3 +17,4 @@ pub mod Touching
 pub mod OneOperation
 pub mod Once
 pub mod TwoOperations
+pub mod Choice

@@ -21,7 +21,7 @@ use Rattle.txc_txn.specs.Transaction.{greatest, is_worn, kept_tag, op_in}
 use Rattle.txc_txn.specs.Transaction.{sequence, start, steps_in, transaction}
 
 -- nothing comes after it
-ends : (ending : Ending) → and_then ending (sequence []) ≡ ending
+pub ends : (ending : Ending) → and_then ending (sequence []) ≡ ending
 ends (Kept state) = refl
 ends (Again cause) = refl
 ends (Aborted stop) = refl

@@ -19,7 +19,7 @@ use Rattle.txc_base.specs.Operation.{Did, Replies, Waits, Stops, operate, says, 
 use Rattle.txc_base.specs.Reply.{last_read_after}
 use Rattle.txc_chan.specs.Committed.{HasNoAct, IsCommittedOp, reply_to}
 use Rattle.txc_chan.specs.Logged.{Left, Logged, Waiting, grown, on_log, op_on, settled}
-use Rattle.txc_txn_check.proofs.Containing.{contains_none, contains_tail}
+use Rattle.txc_txn_check.proofs.Containing.{contains_none, contains_tail, tells}
 use Rattle.txc_txn_check.specs.declared.step.Step.TheVariants.{Do}
 use Rattle.txc_txn.specs.declared.ran.Ran.TheVariants.{Kept as RanKept}
 use Rattle.txc_txn.specs.Maps.{Map, put_at, settle_all}
@@ -142,15 +142,15 @@ after_take m tag from reader item left = record {
 }
 
 -- after the read a move is the write of the item
-then_writes : (m : Map) (tag : Tag) (from reader to : ℕ) (item : Item) (left : Channel)
-    → let ds = lower_first from to in let kept = kept_tag m tag ds in
+then_writes : (m : Map) (tag : Tag) (ds : List ℕ) (from reader to : ℕ) (item : Item) (left : Channel)
+    → let kept = kept_tag m tag ds in
     (is_worn tag.serial || is_worn (greatest m tag.stamp ds)) ≡ false
     → operate (m from).channel tag.seat None (Read from reader) ≡ Replies (Got item) (Took reader item ∷ []) left
     → transaction m tag ds (move_steps from reader to)
     ≡ op_in kept (Write to Last) (after_take m kept from reader item left)
-then_writes m tag from reader to item left rises done =
-    let kept = kept_tag m tag (lower_first from to) in
-    two_in_turn m tag (lower_first from to) (Read from reader) (Write to Last) rises
+then_writes m tag ds from reader to item left rises done =
+    let kept = kept_tag m tag ds in
+    two_in_turn m tag ds (Read from reader) (Write to Last) rises
     ∙ ap (λ (what : Did). and_then (after_did (start m) from kept what) (op_in kept (Write to Last))) done
 
 -- a write of what was read last, to a channel that is found so
@@ -162,26 +162,28 @@ writes_last s tag to l body what at last is =
     ∙ ap (λ (x : Logged). after_did s to tag (operate x.channel tag.seat None (Write to (Lit body)))) at
     ∙ ap (after_did s to tag) is
 
--- what is so of a move: the one channel was read and settled, the other one was written to at once, and all others are
--- the same
-pub record HasMoved (m m' : Map) (tag kept : Tag) (from reader to : ℕ) (item : Item) (act : Act) (mid : Logged)
-    : Type 0 where
+-- what is so of a move that declares these channels: the one was read and settled, the other one was written to at
+-- once, the other declared ones were settled, and all others are the same
+pub record HasMoved (m m' : Map) (tag kept : Tag) (ds : List ℕ) (from reader to : ℕ) (item : Item) (act : Act)
+    (mid : Logged) : Type 0 where
   pub apart : from ≢ to
-  pub rises : (is_worn tag.serial || is_worn (greatest m tag.stamp (lower_first from to))) ≡ false
+  pub here : Contains ds from
+  pub there : Contains ds to
+  pub rises : (is_worn tag.serial || is_worn (greatest m tag.stamp ds)) ≡ false
   pub took : op_on (m from) kept None (Read from reader) ≡ Left (Got item) mid
   pub source : m' from ≡ settled kept.stamp mid
   pub wrote : IsCommittedOp kept (Write to (Lit item.body)) act (m to) (m' to)
-  pub others : (n : ℕ) → n ≢ from → n ≢ to → m' n ≡ m n
+  pub inside : (n : ℕ) → n ≢ from → n ≢ to → Contains ds n → m' n ≡ settled kept.stamp (m n)
+  pub outside : (n : ℕ) → ¬ Contains ds n → m' n ≡ m n
 
 -- the transaction of a move with this receipt was committed
-moves : (m m' : Map) (tag : Tag) (from reader to : ℕ) (item : Item) (act : Act) (mid : Logged)
-    → let ds = lower_first from to in let kept = kept_tag m tag ds in
-    HasMoved m m' tag kept from reader to item act mid
+moves : (m m' : Map) (tag : Tag) (ds : List ℕ) (from reader to : ℕ) (item : Item) (act : Act) (mid : Logged)
+    → let kept = kept_tag m tag ds in
+    HasMoved m m' tag kept ds from reader to item act mid
     → RanSettled kept ds (transaction m tag ds (move_steps from reader to))
     (RanKept (pair_of kept (record { chan = from; place = length (m from).log; act = Took reader item })
     (record { chan = to; place = length (m to).log; act = act }))) m m'
-moves m m' tag from reader to item act mid has =
-    let ds = lower_first from to in
+moves m m' tag ds from reader to item act mid has =
     let kept = kept_tag m tag ds in
     let taken = has_taken (m from) mid kept from reader item has.took in
     let one : State = after_take m kept from reader item taken.left in
@@ -195,7 +197,7 @@ moves m m' tag from reader to item act mid has =
           ∷ record { chan = to; place = length (m to).log; act = act } ∷ [];
     } in
     let ends : transaction m tag ds (move_steps from reader to) ≡ Kept state =
-    then_writes m tag from reader to item taken.left has.rises taken.done
+    then_writes m tag ds from reader to item taken.left has.rises taken.done
     ∙ writes_last one kept to (m to) item.body _ at refl has.wrote.done
     ∙ (λ j. Kept (record {
       chans = put_at one.chans to (grown (at j) kept (act ∷ []) has.wrote.left);
@@ -206,15 +208,21 @@ moves m m' tag from reader to item act mid has =
     })) in
     let there : m' to ≡ settle_all state.chans kept.stamp ds to =
     has.wrote.settles ∙ ap (settled kept.stamp) (sym (put_here one.chans to target))
-    ∙ sym (settle_inside state.chans kept.stamp ds to (both_contain from to).1) in
+    ∙ sym (settle_inside state.chans kept.stamp ds to has.there) in
     let here : m' from ≡ settle_all state.chans kept.stamp ds from =
     has.source
     ∙ ap (settled kept.stamp) (taken.grew ∙ sym (put_here m from _)
     ∙ sym (put_elsewhere one.chans to from target has.apart))
-    ∙ sym (settle_inside state.chans kept.stamp ds from (both_contain from to).0) in
+    ∙ sym (settle_inside state.chans kept.stamp ds from has.here) in
+    let same : (n : ℕ) → n ≢ from → n ≢ to → m n ≡ state.chans n =
+    λ n no not. sym (put_elsewhere m from n _ no) ∙ sym (put_elsewhere one.chans to n target not) in
     let elsewhere : (n : ℕ) → n ≢ from → n ≢ to → m' n ≡ settle_all state.chans kept.stamp ds n =
-    λ n no not. has.others n no not ∙ sym (put_elsewhere m from n _ no) ∙ sym (put_elsewhere one.chans to n target not)
-    ∙ sym (settle_others state.chans kept.stamp ds n (λ is. ⊎_elim no not (only_both from to n is))) in
+    λ n no not. elim (tells ds n) [
+      | inl is ↦
+          has.inside n no not is ∙ ap (settled kept.stamp) (same n no not)
+          ∙ sym (settle_inside state.chans kept.stamp ds n is)
+      | inr none ↦ has.outside n none ∙ same n no not ∙ sym (settle_others state.chans kept.stamp ds n none)
+    ] in
     let all : (n : ℕ) → m' n ≡ settle_all state.chans kept.stamp ds n = λ n. elim (eqb_tells n from) [
       | inl t ↦ subst (λ k. m' k ≡ settle_all state.chans kept.stamp ds k) (sym t.1) here
       | inr t ↦
@@ -228,19 +236,18 @@ moves m m' tag from reader to item act mid has =
     (record { chan = to; place = length (m to).log; act = act }))) m m') (sym ends) (refl, λ j n. all n j)
 
 -- the same, by another name of its tag
-pub has_moved : (m m' : Map) (tag kept : Tag) (from reader to : ℕ) (item : Item) (act : Act) (mid : Logged)
-    → let ds = lower_first from to in
-    kept ≡ kept_tag m tag ds → HasMoved m m' tag kept from reader to item act mid
+pub has_moved : (m m' : Map) (tag kept : Tag) (ds : List ℕ) (from reader to : ℕ) (item : Item) (act : Act)
+    (mid : Logged)
+    → kept ≡ kept_tag m tag ds → HasMoved m m' tag kept ds from reader to item act mid
     → RanSettled (kept_tag m tag ds) ds (transaction m tag ds (move_steps from reader to))
     (RanKept (pair_of kept (record { chan = from; place = length (m from).log; act = Took reader item })
     (record { chan = to; place = length (m to).log; act = act }))) m m'
-has_moved m m' tag kept from reader to item act mid tagged =
-    let ds = lower_first from to in
-    subst (λ (t : Tag). HasMoved m m' tag t from reader to item act mid
+has_moved m m' tag kept ds from reader to item act mid tagged =
+    subst (λ (t : Tag). HasMoved m m' tag t ds from reader to item act mid
     → RanSettled (kept_tag m tag ds) ds (transaction m tag ds (move_steps from reader to))
     (RanKept (pair_of t (record { chan = from; place = length (m from).log; act = Took reader item })
     (record { chan = to; place = length (m to).log; act = act }))) m m') (sym tagged)
-    (moves m m' tag from reader to item act mid)
+    (moves m m' tag ds from reader to item act mid)
 
 -- what waits does so without its log
 pub waiting : (l : Logged) (tag : Tag) (what : Did) (cause : Cause) → on_log l tag what ≡ Waiting cause
@@ -250,51 +257,53 @@ waiting l tag (Waits why) cause is = cc
 waiting l tag (Stops stop) cause is = cc
 
 -- if the read waits, a move must be retried
-pub read_waits : (m : Map) (tag : Tag) (from reader to : ℕ) (cause : Cause)
-    → (is_worn tag.serial || is_worn (greatest m tag.stamp (lower_first from to))) ≡ false
+pub read_waits : (m : Map) (tag : Tag) (ds : List ℕ) (from reader to : ℕ) (cause : Cause)
+    → (is_worn tag.serial || is_worn (greatest m tag.stamp ds)) ≡ false
     → operate (m from).channel tag.seat None (Read from reader) ≡ Waits cause
-    → transaction m tag (lower_first from to) (move_steps from reader to) ≡ Again cause
-read_waits m tag from reader to cause rises waits =
-    let kept = kept_tag m tag (lower_first from to) in
-    two_in_turn m tag (lower_first from to) (Read from reader) (Write to Last) rises
+    → transaction m tag ds (move_steps from reader to) ≡ Again cause
+read_waits m tag ds from reader to cause rises waits =
+    let kept = kept_tag m tag ds in
+    two_in_turn m tag ds (Read from reader) (Write to Last) rises
     ∙ ap (λ (what : Did). and_then (after_did (start m) from kept what) (op_in kept (Write to Last))) waits
 
 -- if the read takes an item, a move ends as the write of the item does
-write_ends : (m : Map) (tag kept : Tag) (from reader to : ℕ) (item : Item) (mid : Logged) (what : Did) → from ≢ to
-    → kept ≡ kept_tag m tag (lower_first from to)
-    → (is_worn tag.serial || is_worn (greatest m tag.stamp (lower_first from to))) ≡ false
+write_ends : (m : Map) (tag kept : Tag) (ds : List ℕ) (from reader to : ℕ) (item : Item) (mid : Logged) (what : Did)
+    → from ≢ to
+    → kept ≡ kept_tag m tag ds
+    → (is_worn tag.serial || is_worn (greatest m tag.stamp ds)) ≡ false
     → op_on (m from) kept None (Read from reader) ≡ Left (Got item) mid
     → operate (m to).channel tag.seat None (Write to (Lit item.body)) ≡ what
-    → (left : Channel) × (transaction m tag (lower_first from to) (move_steps from reader to)
-    ≡ after_did (after_take m (kept_tag m tag (lower_first from to)) from reader item left) to
-    (kept_tag m tag (lower_first from to)) what)
-write_ends m tag kept from reader to item mid what apart tagged rises took is =
-    let named = kept_tag m tag (lower_first from to) in
+    → (left : Channel) × (transaction m tag ds (move_steps from reader to)
+    ≡ after_did (after_take m (kept_tag m tag ds) from reader item left) to
+    (kept_tag m tag ds) what)
+write_ends m tag kept ds from reader to item mid what apart tagged rises took is =
+    let named = kept_tag m tag ds in
     let taken = has_taken (m from) mid named from reader item
     (subst (λ (t : Tag). op_on (m from) t None (Read from reader) ≡ Left (Got item) mid) tagged took) in
     let one : State = after_take m named from reader item taken.left in (
       taken.left,
-      then_writes m tag from reader to item taken.left rises taken.done
+      then_writes m tag ds from reader to item taken.left rises taken.done
           ∙ writes_last one named to (m to) item.body what (put_elsewhere m from to _ (λ e. apart (sym e))) refl is,
     )
 
 -- if the write waits, a move must be retried
-pub write_waits : (m : Map) (tag kept : Tag) (from reader to : ℕ) (item : Item) (mid : Logged) (cause : Cause)
-    → from ≢ to → kept ≡ kept_tag m tag (lower_first from to)
-    → (is_worn tag.serial || is_worn (greatest m tag.stamp (lower_first from to))) ≡ false
+pub write_waits : (m : Map) (tag kept : Tag) (ds : List ℕ) (from reader to : ℕ) (item : Item) (mid : Logged)
+    (cause : Cause)
+    → from ≢ to → kept ≡ kept_tag m tag ds
+    → (is_worn tag.serial || is_worn (greatest m tag.stamp ds)) ≡ false
     → op_on (m from) kept None (Read from reader) ≡ Left (Got item) mid
     → operate (m to).channel tag.seat None (Write to (Lit item.body)) ≡ Waits cause
-    → transaction m tag (lower_first from to) (move_steps from reader to) ≡ Again cause
-write_waits m tag kept from reader to item mid cause apart tagged rises took waits =
-    (write_ends m tag kept from reader to item mid (Waits cause) apart tagged rises took waits).1
+    → transaction m tag ds (move_steps from reader to) ≡ Again cause
+write_waits m tag kept ds from reader to item mid cause apart tagged rises took waits =
+    (write_ends m tag kept ds from reader to item mid (Waits cause) apart tagged rises took waits).1
 
 -- if a number is used up, nothing commits
-pub worn_no_pair : (m : Map) (tag : Tag) (from reader to : ℕ)
-    → (is_worn tag.serial || is_worn (greatest m tag.stamp (lower_first from to))) ≡ true
-    → IsNoPair (transaction m tag (lower_first from to) (move_steps from reader to))
-worn_no_pair m tag from reader to worn state is =
+pub worn_no_pair : (m : Map) (tag : Tag) (ds : List ℕ) (from reader to : ℕ)
+    → (is_worn tag.serial || is_worn (greatest m tag.stamp ds)) ≡ true
+    → IsNoPair (transaction m tag ds (move_steps from reader to))
+worn_no_pair m tag ds from reader to worn state is =
     let never : Aborted Worn ≡ Kept state =
-    sym (ap (λ (b : Bool). if b then Aborted Worn else steps_in (kept_tag m tag (lower_first from to))
+    sym (ap (λ (b : Bool). if b then Aborted Worn else steps_in (kept_tag m tag ds)
     (move_steps from reader to) (start m)) worn) ∙ is in
     cc
 
@@ -321,13 +330,13 @@ none_taken m tag from reader to (Some []) not state is = closed (m from).channel
 none_taken m tag from reader to (Some (item ∷ rest)) not state is = absurd (not item _ refl)
 
 -- if the read takes nothing, a move does not commit
-pub read_no_pair : (m : Map) (tag kept : Tag) (from reader to : ℕ) → kept ≡ kept_tag m tag (lower_first from to)
-    → (is_worn tag.serial || is_worn (greatest m tag.stamp (lower_first from to))) ≡ false
+pub read_no_pair : (m : Map) (tag kept : Tag) (ds : List ℕ) (from reader to : ℕ) → kept ≡ kept_tag m tag ds
+    → (is_worn tag.serial || is_worn (greatest m tag.stamp ds)) ≡ false
     → ((item : Item) (mid : Logged) → op_on (m from) kept None (Read from reader) ≡ Left (Got item) mid → ⊥)
-    → IsNoPair (transaction m tag (lower_first from to) (move_steps from reader to))
-read_no_pair m tag kept from reader to tagged rises none =
-    subst IsNoPair (sym (two_in_turn m tag (lower_first from to) (Read from reader) (Write to Last) rises))
-    (none_taken m (kept_tag m tag (lower_first from to)) from reader to (list_of (m from).channel reader)
+    → IsNoPair (transaction m tag ds (move_steps from reader to))
+read_no_pair m tag kept ds from reader to tagged rises none =
+    subst IsNoPair (sym (two_in_turn m tag ds (Read from reader) (Write to Last) rises))
+    (none_taken m (kept_tag m tag ds) from reader to (list_of (m from).channel reader)
     (subst (λ (t : Tag). (item : Item) (mid : Logged)
     → op_on (m from) t None (Read from reader) ≡ Left (Got item) mid → ⊥) tagged none))
 
@@ -338,20 +347,21 @@ deeds_of (Again cause) = 0
 deeds_of (Aborted stop) = 0
 
 -- if the write has no act, a move does not commit with two acts
-pub write_no_pair : (m : Map) (tag kept : Tag) (from reader to : ℕ) (item : Item) (mid : Logged) → from ≢ to
-    → kept ≡ kept_tag m tag (lower_first from to)
-    → (is_worn tag.serial || is_worn (greatest m tag.stamp (lower_first from to))) ≡ false
+pub write_no_pair : (m : Map) (tag kept : Tag) (ds : List ℕ) (from reader to : ℕ) (item : Item) (mid : Logged)
+    → from ≢ to
+    → kept ≡ kept_tag m tag ds
+    → (is_worn tag.serial || is_worn (greatest m tag.stamp ds)) ≡ false
     → op_on (m from) kept None (Read from reader) ≡ Left (Got item) mid
     → HasNoAct (operate (m to).channel tag.seat None (Write to (Lit item.body)))
-    → IsNoPair (transaction m tag (lower_first from to) (move_steps from reader to))
-write_no_pair m tag kept from reader to item mid apart tagged rises took none =
+    → IsNoPair (transaction m tag ds (move_steps from reader to))
+write_no_pair m tag kept ds from reader to item mid apart tagged rises took none =
     let what : Did = operate (m to).channel tag.seat None (Write to (Lit item.body)) in
-    let ends = write_ends m tag kept from reader to item mid what apart tagged rises took refl in
+    let ends = write_ends m tag kept ds from reader to item mid what apart tagged rises took refl in
     subst IsNoPair (sym ends.1) (by ends.0 what none)
   where
     by : (left : Channel) (what : Did) → HasNoAct what → IsNoPair (after_did
-        (after_take m (kept_tag m tag (lower_first from to)) from reader item left) to
-        (kept_tag m tag (lower_first from to)) what)
+        (after_take m (kept_tag m tag ds) from reader item left) to
+        (kept_tag m tag ds) what)
     by left (Replies reply [] channel) idle state is two =
         let one : 1 ≡ length state.deeds = ap deeds_of is in
         omega (arith, one, two)

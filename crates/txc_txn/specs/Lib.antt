@@ -16,3 +16,4 @@ pub use Rattle.txc_txn_check.specs.Tally
 pub use Rattle.txc_txn_check.specs.Fault
 pub mod ReceiptBuffers
 pub mod TwoOperations
+pub mod Choice

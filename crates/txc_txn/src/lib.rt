@@ -16,6 +16,7 @@ mod ran;
 mod receipt;
 mod receipt_buffers;
 mod receipt_pair;
+mod receipt_single;
 mod report;
 mod run;
 mod savepoint;

@@ -8,8 +8,8 @@ use crate::receipt_buffers::reply_to;
 use std::alloc::AllocError;
 use txc_base::{Act, Reply, Tag};
 
-/// An act that `set_pair` replaces.
-const NO_DEED: Deed = Deed {
+/// An act that `set_single` or `set_pair` replaces.
+pub(crate) const NO_DEED: Deed = Deed {
     chan: 0,
     place: 0,
     act: Act::Closed,

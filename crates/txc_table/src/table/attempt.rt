@@ -48,7 +48,7 @@ impl<K: Log> Table<K> {
     /// Commits a transaction of one operation at once, on its line alone, if it can. The receipt has the tag of the
     /// try. Returns `Committed` if the transaction committed: the receipt is then the transaction's. Returns
     /// `MustRetry` if the transaction must be retried. Fails only if an allocation fails. Unless it returns
-    /// `Committed`, nothing is changed.
+    /// `Committed`, nothing is changed except the replies and the acts of the receipt, which are then arbitrary.
     fn commit_at_once<R: Wait>(
         &self,
         rt: &R,
@@ -70,7 +70,7 @@ impl<K: Log> Table<K> {
             → plan.declared ≡ chan_of op ∷ []
             → IfOk result (λ is. is ≢ AtOnce.Committed → IsNotImmediate receipt.old.tag op shares.old) }
         ensures left { IfOk result (λ is. is ≢ AtOnce.Committed
-            → (shares.new ≡ shares.old) × (receipt.new ≡ receipt.old)) }
+            → (shares.new ≡ shares.old) × (receipt.new.tag ≡ receipt.old.tag)) }
         ensures lines { line_ids shares.new ≡ line_ids shares.old }
         ensures same { OnErr result (shares.new ≡ shares.old) }
     {
@@ -81,7 +81,7 @@ impl<K: Log> Table<K> {
         checked.show_fits(self.kinds.as_slice());
         checked.show();
         shares.show();
-        shares.commit_one(rt, &self.lines, call.alloc, op, receipt)
+        shares.commit_one(rt, &self.lines, op, receipt)
     }
 
     /// Runs a transaction on its channels: at once if it can and there is no gate, and else as `run_held` does. The

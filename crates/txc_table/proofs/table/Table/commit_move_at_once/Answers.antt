@@ -5,11 +5,12 @@ use Rattle.txc_base.specs.declared.kind.Kind.{Kind}
 use Rattle.txc_base.specs.declared.op.Op.TheVariants.{Read, Write}
 use Rattle.txc_base.specs.declared.source.Source.TheVariants.{Last}
 use Rattle.txc_txn_check.specs.Steps.{Fits}
+use Rattle.txc_txn.specs.TwoOperations.{lower_first, move_steps}
 use Rattle.txc_table_line.specs.SeatShare.{SeatShareView}
 use Rattle.txc_table_lines.specs.Lines.{line_ids}
 use Rattle.txc_table.specs.Table.{TableView}
-use Rattle.txc_table.proofs.MoveAtOnce.{from_declared, kept_move, line_fits, read_fits, retried_move, to_declared}
-use Rattle.txc_table.proofs.MoveAtOnce.{returned_move, write_fits}
+use Rattle.txc_table.proofs.MoveAtOnce.{both_there, from_declared, kept_as, line_fits, read_fits, retried_as}
+use Rattle.txc_table.proofs.MoveAtOnce.{returned_as, to_declared, write_fits}
 use Rattle.txc_table.proofs.Trying.{kinds_within}
 use Rattle.txc_table.proofs.table.Table.commit_move_at_once.Goals as goal
 
@@ -90,29 +91,31 @@ commit_move-requires-clause-writes g c =
 
 pub returns-clause-outcome : goal.returns-clause-outcome
 returns-clause-outcome g c =
-    ok_map _ _ c.commit_move.result (λ is committed at-once. returned_move c.args.receipt.now.tag
-    c.args.call.now.checked.now c.in-Some.what.from c.in-Some.what.reader c.in-Some.what.to c.args.shares.now
-    c.commit_move.new.self
-    c.commit_move.new.receipt c.in-Some.ensures.steps c.in-Some.ensures.declared (committed at-once))
-    c.commit_move.ensures.done
+    let what = c.in-Some.what in
+    ok_map _ _ c.commit_move.result (λ is committed at-once. returned_as c.args.receipt.now.tag
+    c.args.call.now.checked.now (lower_first what.from what.to) (move_steps what.from what.reader what.to)
+    c.args.shares.now c.commit_move.new.self c.commit_move.new.receipt c.in-Some.ensures.steps
+    c.in-Some.ensures.declared (committed at-once)) c.commit_move.ensures.done
 
 pub returns-clause-retry : goal.returns-clause-retry
 returns-clause-retry g c cause =
-    ok_map _ _ c.commit_move.result (λ is must same. retried_move c.args.receipt.now.tag c.args.call.now.checked.now
-    c.in-Some.what.from c.in-Some.what.reader c.in-Some.what.to c.args.shares.now cause c.in-Some.ensures.steps
-    c.in-Some.ensures.declared (must same)) (c.commit_move.ensures.retry cause)
+    let what = c.in-Some.what in
+    ok_map _ _ c.commit_move.result (λ is must same. retried_as c.args.receipt.now.tag c.args.call.now.checked.now
+    (lower_first what.from what.to) (move_steps what.from what.reader what.to) c.args.shares.now cause
+    c.in-Some.ensures.steps c.in-Some.ensures.declared (must same)) (c.commit_move.ensures.retry cause)
 
 pub returns-clause-kept : goal.returns-clause-kept
 returns-clause-kept g c =
+    let what = c.in-Some.what in
     let of : line_ids c.args.shares.now ≡ c.self.inside.lines =
     c.requires.of ∙ sym (ap (λ (t : TableView). t.lines.all) c.self.view_is) in
     let long = length-map c.args.shares.now (λ (share : SeatShareView). share.line) in
-    let from : c.in-Some.what.from < length c.args.shares.now =
+    let from : what.from < length c.args.shares.now =
     omega (arith, commit_move-requires-clause-from g c.before, ap length of, long) in
-    let to : c.in-Some.what.to < length c.args.shares.now =
+    let to : what.to < length c.args.shares.now =
     omega (arith, commit_move-requires-clause-to g c.before, ap length of, long) in
-    ok_map _ _ c.commit_move.result (λ is committed at-once. kept_move c.args.receipt.now.tag
-    c.args.call.now.checked.now c.in-Some.what.from c.in-Some.what.reader c.in-Some.what.to c.args.shares.now
-    c.commit_move.new.self
-    c.commit_move.new.receipt c.in-Some.ensures.steps c.in-Some.ensures.declared from to c.show.ensures.names
+    ok_map _ _ c.commit_move.result (λ is committed at-once. kept_as c.args.receipt.now.tag
+    c.args.call.now.checked.now (lower_first what.from what.to) (move_steps what.from what.reader what.to)
+    c.args.shares.now c.commit_move.new.self c.commit_move.new.receipt c.in-Some.ensures.steps
+    c.in-Some.ensures.declared (both_there c.args.shares.now what.from what.to from to) c.show.ensures.names
     c.commit_move.ensures.lines (committed at-once)) c.commit_move.ensures.done

@@ -98,7 +98,7 @@ returns-in_default-2-clause-retry g c cause is =
     ≡ Left (Got c.in-Ok.item) mid) same
     (ok_so c.in_ok-item.field-0 c.in-Ok.item _ c.in-Ok.is c.in_ok-item.ensures.taken) in
     let there : c.log_len-place-2.new.self ≡ target = c.log_len-place-2.ensures.same ∙ c.stamp-2.ensures.same in
-    let unchanged : c.commit_write.new.target.held.logged ≡ t =
+    let unchanged : c.commit_op.new.line.held.logged ≡ t =
     (none_so c.in_ok-act.field-0 c.in_default-2.is c.in_ok-act.ensures.left).0
     ∙ ap (λ (x : LineChanView). x.held.logged) there in
     write_retries c.args.tag c.in-Some.tag c.args.what.from c.args.what.reader c.args.what.to c.in-Ok.item s mid t
@@ -136,8 +136,8 @@ returns-in_default-2-clause-once g c not =
     (subst (λ n. HasNoAct (operate c.log_len-place-2.new.self.held.logged.channel n None
     (Write c.args.what.to (Lit c.in-Ok.item.body)))) (ap (λ (x : Tag). x.seat) begins.tagged) none))
 
-pub settle_read-requires-clause-ready : goal.settle_read-requires-clause-ready
-settle_read-requires-clause-ready g c =
+pub settle_line-requires-clause-ready : goal.settle_line-requires-clause-ready
+settle_line-requires-clause-ready g c =
     let source : LineChanView = c.take_both-source.result.0 in
     let target : LineChanView = c.take_both-source.result.1 in
     let s : Logged = source.held.logged in
@@ -184,10 +184,10 @@ returns-clause-done g c is =
     let act = c.in-Some-2.act in
     let write = Write to (Lit c.in-Ok.item.body) in
     let shares : List SeatShareView = c.args.self.now in
-    let between : List SeatShareView = c.commit_write.new.self in
-    let after : List SeatShareView = c.settle_read.new.self in
-    let t' : Logged = c.commit_write.new.target.held.logged in
-    let s' : Logged = c.settle_read.new.source.held.logged in
+    let between : List SeatShareView = c.commit_op.new.self in
+    let after : List SeatShareView = c.settle_line.new.self in
+    let t' : Logged = c.commit_op.new.line.held.logged in
+    let s' : Logged = c.settle_line.new.source.held.logged in
     let seat : c.take_both-source.new.shares ≡ shares = c.take_both-source.ensures.same in
     let wrote : IsCommittedOp kept write act t t' =
     subst (λ (x : LineChanView). IsCommittedOp kept write act x.held.logged t') there
@@ -203,10 +203,10 @@ returns-clause-done g c is =
       took = took;
       wrote = wrote;
       counts = counts;
-      settles = c.settle_read.ensures.settled;
+      settles = c.settle_line.ensures.settled;
       first = subst (λ (x : List SeatShareView). between ≡ slice_set x to (share_at between to)) seat
-          c.commit_write.ensures.others;
-      second = c.settle_read.ensures.others;
+          c.commit_op.ensures.others;
+      second = c.settle_line.ensures.others;
     } in
     let place : c.log_len-place.result ≡ length s.log =
     c.log_len-place.ensures.value ∙ ap (λ (x : LineChanView). length x.held.logged.log) c.stamp.ensures.same in

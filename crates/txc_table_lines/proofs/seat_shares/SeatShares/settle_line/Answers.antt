@@ -2,7 +2,7 @@ use Rattle.std.proofs.Common.{rules, refl, ◌≡◌, ◌∙◌, ◌<◌, ap, ar
 use Rattle.txc_table_line.specs.SeatShare.{SeatShareView}
 use Rattle.txc_table_lines.specs.Lines.{line_ids, no_share}
 use Rattle.txc_table_lines.proofs.Sharing.{indexed, lines_set}
-use Rattle.txc_table_lines.proofs.seat_shares.SeatShares.settle_read.Goals as goal
+use Rattle.txc_table_lines.proofs.seat_shares.SeatShares.settle_line.Goals as goal
 
 pub returns-clause-lines : goal.returns-clause-lines
 returns-clause-lines g c =
