@@ -1,7 +1,6 @@
-use Rattle.std.proofs.Common.{◌≡◌, ◌≢◌, ◌∙◌, ap, sym, subst, List, IfOk}
+use Rattle.std.proofs.Common.{◌≡◌, ◌≢◌, ◌∙◌, sym, subst, List, IfOk}
 use Rattle.txc_base.specs.declared.tag.Tag.{Tag}
 use Rattle.txc_txn.specs.declared.ran.Ran.TheVariants.{Kept as RanKept}
-use Rattle.txc_txn.specs.declared.receipt.Receipt.{Receipt}
 use Rattle.txc_txn.specs.Maps.{Map}
 use Rattle.txc_txn.specs.Transaction.{kept_tag, transaction}
 use Rattle.txc_table_line.specs.SeatShare.{SeatShareView}
@@ -23,8 +22,8 @@ returns-in-Committed-2-clause-outcome g c =
     subst (λ (shares : List SeatShareView). (m : Map) × AreKnown shares m
     × Answers (kept_tag m c.args.receipt.now.tag plan.declared)
     (transaction m c.args.receipt.now.tag plan.declared plan.steps) (RanKept c.commit_move_at_once.new.receipt)) left.0
-    (subst (λ (r : Receipt). (m : Map) × AreKnown c.commit_at_once.new.shares m
-    × Answers (kept_tag m r.tag plan.declared) (transaction m r.tag plan.declared plan.steps)
+    (subst (λ (t : Tag). (m : Map) × AreKnown c.commit_at_once.new.shares m
+    × Answers (kept_tag m t plan.declared) (transaction m t plan.declared plan.steps)
     (RanKept c.commit_move_at_once.new.receipt)) left.1
     (c.in_ok-commit_move_at_once.ensures.outcome c.in-Committed-2.is))
 
@@ -34,8 +33,7 @@ returns-in-NotDone-2-clause-outcome g c =
     let left = c.in_ok-commit_at_once.ensures.left (not_committed _ c.in-NotDone.is) in
     let again = c.in_ok-commit_move_at_once.ensures.left (not_committed _ c.in-NotDone-2.is) in
     let shares : c.commit_move_at_once.new.shares ≡ c.args.shares.now = again.0 ∙ left.0 in
-    let tag : c.commit_move_at_once.new.receipt.tag ≡ c.args.receipt.now.tag =
-    again.1 ∙ ap (λ (r : Receipt). r.tag) left.1 in
+    let tag : c.commit_move_at_once.new.receipt.tag ≡ c.args.receipt.now.tag = again.1 ∙ left.1 in
     subst (λ (shares : List SeatShareView). IfOk c.run_in_place-in-NotDone-2.result (λ ended. (m : Map)
     × AreKnown shares m × Answers (kept_tag m c.args.receipt.now.tag plan.declared)
     (transaction m c.args.receipt.now.tag plan.declared plan.steps)
