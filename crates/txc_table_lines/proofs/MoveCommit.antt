@@ -1,5 +1,5 @@
 -- A move that was committed at once, in terms of all lines.
-use Rattle.std.proofs.Common.{◌≡◌, ◌≢◌, ◌∙◌, refl, sym, ap, subst, inl, inr, ⊎_elim, ℕ, zero, suc, ◌<◌, ◌+◌, ◌||◌}
+use Rattle.std.proofs.Common.{◌≡◌, ◌≢◌, ◌∙◌, refl, sym, ap, subst, inl, inr, ℕ, zero, suc, ◌<◌, ◌+◌, ◌||◌}
 use Rattle.std.proofs.Common.{false, None, Some, List, [], ◌∷◌, ◌++◌, append-nil, length, Contains, nat_eq, slice_get}
 use Rattle.std.proofs.Common.{arith}
 use Rattle.std.proofs.lemmas.Bool.Decides.{eqb_tells}

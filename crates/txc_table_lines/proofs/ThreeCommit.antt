@@ -16,7 +16,6 @@ use Rattle.txc_base.specs.declared.source.Source.TheVariants.{Lit}
 use Rattle.txc_base.specs.declared.tag.Tag.{Tag}
 use Rattle.txc_base.specs.Kinds.{supports}
 use Rattle.txc_base.specs.Operation.{Waits, operate}
-use Rattle.txc_chan.specs.Body.{last_entries}
 use Rattle.txc_chan.specs.Committed.{HasNoAct, IsCommittedOp}
 use Rattle.txc_chan.specs.Logged.{Left, Logged, op_on}
 use Rattle.txc_table_line.specs.Commit.{CountsOne}
@@ -37,7 +36,7 @@ use Rattle.txc_table_lines.specs.declared.choice.Choice.{Choice}
 use Rattle.txc_table_lines.specs.Choice.{FirstWaits, IsCommittedChoice, IsNoFirstMove, MustRetryChoice, channels_of}
 use Rattle.txc_table_lines.specs.Committed.{IsSettled}
 use Rattle.txc_table_lines.specs.Guards as guards
-use Rattle.txc_table_lines.specs.Guards.{IsReady, known_of}
+use Rattle.txc_table_lines.specs.Guards.{IsReady}
 use Rattle.txc_table_lines.specs.Lines.{AreValidShares, share_at}
 use Rattle.txc_table_lines.specs.OneOperation.{AreKnown}
 use Rattle.txc_table_lines.proofs.Committing.{can_commit}

@@ -1,13 +1,11 @@
 -- A transaction that moves an item and was committed at once, in terms of all lines.
-use Rattle.std.proofs.Common.{◌≡◌, ◌≢◌, ◌∙◌, refl, sym, ap, subst, inl, inr, ⊎_elim, ℕ, zero, suc, ◌<◌, ◌+◌, ◌||◌, Bool}
-use Rattle.std.proofs.Common.{true, false, max, None, Some, List, [], ◌∷◌, ◌++◌, length, Contains, nat_eq, slice_get}
+use Rattle.std.proofs.Common.{◌≡◌, ◌≢◌, ◌∙◌, sym, ap, subst, ⊎_elim, ℕ, ◌<◌, ◌+◌, ◌||◌, Bool}
+use Rattle.std.proofs.Common.{true, false, max, None, List, length, Contains}
 use Rattle.std.proofs.Common.{slice_set, arith, Result, Ok, Err, IfOk, IfErr}
-use Rattle.std.proofs.lemmas.Bool.Decides.{eqb_tells}
 use mathlib.Core.List.{IsPrefix}
 use Rattle.txc_base.specs.declared.act.Act.{Act}
 use Rattle.txc_base.specs.declared.act.Act.TheVariants.{Took}
 use Rattle.txc_base.specs.declared.cause.Cause.{Cause}
-use Rattle.txc_base.specs.declared.entry.Entry.{Entry}
 use Rattle.txc_base.specs.declared.item.Item.{Item}
 use Rattle.txc_base.specs.declared.op.Op.TheVariants.{Read, Write}
 use Rattle.txc_base.specs.declared.reply.Reply.TheVariants.{Got}
@@ -16,23 +14,17 @@ use Rattle.txc_base.specs.declared.tag.Tag.{Tag}
 use Rattle.txc_base.specs.Operation.{Waits, operate}
 use Rattle.txc_chan.specs.Committed.{HasNoAct, IsCommittedOp}
 use Rattle.txc_chan.specs.Logged.{Left, Logged, op_on}
-use Rattle.txc_chan.specs.Reserved.{one_if}
 use Rattle.txc_table_line.specs.Commit.{CountsOne}
 use Rattle.txc_table_line.specs.Known.{IsKnown}
 use Rattle.txc_table_line.specs.LineChan.{LineChanView}
 use Rattle.txc_table_line.specs.SeatShare.{SeatShareView}
-use Rattle.txc_txn.specs.declared.deed.Deed.{Deed}
-use Rattle.txc_txn.specs.declared.ran.Ran.TheVariants.{Kept as RanKept}
-use Rattle.txc_txn.specs.declared.receipt.Receipt.{Receipt}
-use Rattle.txc_txn.specs.Growth.{Grows}
 use Rattle.txc_txn.specs.Maps.{Map, put_at}
-use Rattle.txc_txn.specs.Run.{RanSettled}
-use Rattle.txc_txn.specs.Transaction.{greatest, is_worn, kept_tag, transaction}
+use Rattle.txc_txn.specs.Transaction.{greatest, is_worn, kept_tag}
 use Rattle.txc_txn.specs.TwoOperations.{lower_first, move_steps, pair_of}
 use Rattle.txc_txn.proofs.TwoOperations.{both_contain, greatest_of_both}
 use Rattle.txc_txn.proofs.TwoOperations.{only_both, put_elsewhere, put_here, read_no_pair, read_waits, worn_no_pair}
 use Rattle.txc_txn.proofs.TwoOperations.{write_no_pair, write_waits}
-use Rattle.txc_table_lines.specs.Committed.{AreCommitted, CountsCommit, IsSettled}
+use Rattle.txc_table_lines.specs.Committed.{IsSettled}
 use Rattle.txc_table_lines.specs.Guards as guards
 use Rattle.txc_table_lines.specs.Guards.{IsReady, known_of}
 use Rattle.txc_table_lines.specs.Lines.{AreValidShares, share_at}
@@ -41,7 +33,6 @@ use Rattle.txc_table_lines.specs.TwoOperations.{IsCommittedMove, IsNoMove, MustR
 use Rattle.txc_table_lines.proofs.Committing.{can_commit}
 use Rattle.txc_table_lines.proofs.MoveCommit.{committed_as, committed_on, takes}
 use Rattle.txc_table_lines.proofs.OneCommit.{IsFound, each_put, found_logged, share_other}
-use Rattle.txc_table_lines.proofs.Sharing.{begins_itself, begins_more}
 use Rattle.txc_table_lines.proofs.Taking.{known_since}
 
 -- the channels of all lines, if those of a move were found so

@@ -1,5 +1,5 @@
 // The buffers of a receipt for one act.
-ghost use Rattle.std.specs.Prelude.{◌≡◌, ◌<◌, [], ◌∷◌, vec_capacity, OnErr, IfOk, OnOk};
+ghost use Rattle.std.specs.Prelude.{◌≡◌, ◌<◌, [], ◌∷◌, vec_capacity, OnErr, IfOk};
 ghost use Rattle.txc_chan.specs.Committed.{reply_to};
 
 use crate::deed::Deed;

@@ -26,7 +26,7 @@ use crate::tried::Tried;
 use std::alloc::{AllocError, Global};
 use std::mem;
 use std::sync::Wait;
-use txc_base::{Cause, Op, Stop};
+use txc_base::{Cause, Stop};
 use txc_chan::Log;
 use txc_table_interests::changed_by;
 use txc_table_lines::{AtOnce, Guards, SeatShares};

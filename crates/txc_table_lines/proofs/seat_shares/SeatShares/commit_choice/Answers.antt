@@ -1,4 +1,4 @@
-use Rattle.std.proofs.Common.{rules, refl, ◌≡◌, ◌≢◌, ◌∙◌, sym, ap, subst, ◌<◌, ◌+◌, ◌||◌, true, false, max, arith}
+use Rattle.std.proofs.Common.{refl, ◌≡◌, ◌≢◌, ◌∙◌, sym, ap, subst, ◌<◌, ◌+◌, ◌||◌, true, false, max}
 use Rattle.std.proofs.Common.{None, List, length, slice_set}
 use Rattle.txc_base.specs.declared.act.Act.TheVariants.{Took}
 use Rattle.txc_base.specs.declared.item.Item.{Item}

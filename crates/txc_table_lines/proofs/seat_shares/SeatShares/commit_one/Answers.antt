@@ -1,5 +1,5 @@
-use Rattle.std.proofs.Common.{rules, refl, ◌≡◌, ◌∙◌, sym, ap, subst, ◌+◌, ◌||◌, true, false, max, None, List, []}
-use Rattle.std.proofs.Common.{◌∷◌, length, slice_set}
+use Rattle.std.proofs.Common.{rules, refl, ◌≡◌, ◌∙◌, sym, ap, subst, ◌+◌, ◌||◌, true, false, max, None, List}
+use Rattle.std.proofs.Common.{length, slice_set}
 use Rattle.txc_base.specs.declared.tag.Tag.{Tag}
 use Rattle.txc_base.specs.Operation.{Waits, operate}
 use Rattle.txc_txn.specs.Transaction.{is_worn}
