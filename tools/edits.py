@@ -10,7 +10,8 @@ One check tries many mutants, each in the body of another function. The checker 
 without a proof, and a change of a body leaves the goals of the other functions as they are. So a mutant is rejected if
 a goal of its own function has no proof. A mutant about which such a check decides nothing, or which changes another
 text than one body, is tried alone, as `rt must-fail` tries it. At most N checks run side by side: by default as many as
-there are processors and memory for.
+there are processors and memory for. What takes long in a check are the goals without a proof, so many mutants are tried
+in several checks.
 
 Each mutant counts by itself. The last line is 'N passed, M failed'.
 """
@@ -40,6 +41,8 @@ USED = ("checked", "must_fail", "rtlib", "unread")
 LINE = re.compile(r"^fn (\S+): (.*)$", re.MULTILINE)
 OWN = re.compile(r"no proof: .*did not prove|not proved$")
 REFUSED = "not proved; it stands on "
+# How many mutants are worth a check of their own: with fewer, to load the crate takes longer than their goals.
+FEWEST = 6
 # The last line of a check that came to its proofs, of a whole crate or of some functions.
 ENDED = re.compile(r"^(?:logic=(?:not-)?proved|only=\d+ proved=\d+)\b.*\n*\Z", re.MULTILINE)
 
@@ -99,6 +102,17 @@ def rounds_of(crate, edits):
     return [it for it in rounds if len(it) > 1], alone + [edit for it in rounds if len(it) == 1 for edit in it.values()]
 
 
+def split(rounds, jobs):
+    """These rounds in parts, so that so many checks side by side end at about the same time."""
+    mutants = sum(map(len, rounds))
+    most = max(FEWEST, -(-mutants // (2 * jobs)))
+    parts = []
+    for chosen in rounds:
+        pairs, count = [*chosen.items()], -(-len(chosen) // most)
+        parts += [dict(pairs[at::count]) for at in range(count)]
+    return sorted(parts, key=len, reverse=True)
+
+
 def can_be_applied(crate, edits):
     try:
         edit_files.texts_of(crate, edits)
@@ -118,6 +132,7 @@ class Trial:
     def run(self, jobs):
         """How many mutants are rejected."""
         rounds, alone = rounds_of(self.folder, self.edits)
+        rounds = split(rounds, jobs)
         before = listing(self.kept)
         with concurrent.futures.ThreadPoolExecutor(jobs) as pool:
             rejected = {edit for found in pool.map(self.together, rounds) for edit in found}
@@ -131,7 +146,9 @@ class Trial:
     def over_kept(self, check):
         """What a check returns that is given what the proof of the crate kept."""
         with tempfile.TemporaryDirectory(prefix="kept-") as place:
-            link(self.kept, f"{place}/kept")
+            # A check of a static library seems to write into one of these files.
+            copy = shutil.copy2 if self.crate.is_static else os.link
+            shutil.copytree(self.kept, f"{place}/kept", copy_function=copy)
             return check(f"{place}/kept")
 
     def together(self, chosen):

@@ -1,6 +1,6 @@
 -- Steps of the proof of an attempt that commits at once.
 use Rattle.std.proofs.Common.{◌≡◌, refl, sym, subst, ℕ, ◌<◌, true, List, [], ◌∷◌, length, arith, Contains, slice_get}
-use Rattle.std.specs.Prelude.{Ok}
+use Rattle.std.specs.Prelude.{Result, Ok, Err, IfOk}
 use Rattle.txc_base.specs.declared.cause.Cause.{Cause}
 use Rattle.txc_base.specs.declared.kind.Kind.{Kind}
 use Rattle.txc_base.specs.declared.op.Op.{Op}
@@ -32,6 +32,11 @@ use Rattle.txc_table.specs.Table.{line_decls}
 use Rattle.txc_table.specs.Outcome.{Answers}
 use Rattle.txc_table.proofs.Standing.{kept_with}
 use Rattle.txc_table.proofs.Trying.{held_answers, kinds_agree}
+
+-- what follows from what is true of a result
+pub ok_map : {A E : Type 0} (P Q : A → Type 0) (r : Result A E) → ((x : A) → P x → Q x) → IfOk r P → IfOk r Q
+ok_map P Q (Ok x) f is = f x is
+ok_map P Q (Err e) f is = tt
 
 -- the channel of the only operation is declared
 pub only_declared : (declared : List ℕ) (op : Op) → declared ≡ chan_of op ∷ [] → Contains declared (chan_of op)

@@ -12,7 +12,7 @@ use crate::guards::take_line;
 use crate::lines::Lines;
 use crate::one_operation::AtOnce;
 use crate::seat_shares::SeatShares;
-use crate::two_operations::{Move, TRIES, take_both, take_item};
+use crate::two_operations::{TRIES, take_both, take_item};
 use std::alloc::AllocError;
 use std::sync::Wait;
 use txc_base::{Act, Op, Source, Tag};
@@ -71,18 +71,13 @@ fn take_three<'a, R: Wait, K: Log>(
         to,
         ..
     } = what;
-    let both = Move {
-        from: one,
-        reader: 0,
-        to: other,
-    };
     if to < one && to < other {
         let target = take_line(rt, lines, to, TRIES, shares);
-        let (first, second) = take_both(rt, lines, both, shares);
+        let (first, second) = take_both(rt, lines, one, other, shares);
         return (first, second, target);
     }
     if to > one && to > other {
-        let (first, second) = take_both(rt, lines, both, shares);
+        let (first, second) = take_both(rt, lines, one, other, shares);
         let target = take_line(rt, lines, to, TRIES, shares);
         return (first, second, target);
     }

@@ -38,30 +38,31 @@ pub struct Move {
     pub to: u16,
 }
 
-/// Locks the two lines of a move, the lower one first, so that no two threads wait for each other. Returns the line
-/// that is read, and then the other one. It blocks while another thread has one of the locks, and does not allocate.
+/// Locks two lines, the lower one first, so that no two threads wait for each other. Returns them in the order of their
+/// numbers here. It blocks while another thread has one of the locks, and does not allocate.
 #[inline(always)]
 pub(crate) fn take_both<'a, R: Wait, K: Log>(
     rt: &R,
     lines: &'a Lines<K>,
-    what: Move,
+    one: u16,
+    other: u16,
     shares: &mut SeatShares<K>,
 ) -> (LineGuard<'a, K>, LineGuard<'a, K>)
     requires of { line_ids shares.old ≡ lines.now }
-    requires from { what.from < length lines.now }
-    requires to { what.to < length lines.now }
-    ensures source { IsFound (share_at shares.old what.from) result.0 }
-    ensures target { IsFound (share_at shares.old what.to) result.1 }
+    requires one { one < length lines.now }
+    requires other { other < length lines.now }
+    ensures one { IsFound (share_at shares.old one) result.0 }
+    ensures other { IsFound (share_at shares.old other) result.1 }
     ensures same { shares.new ≡ shares.old }
 {
-    if what.from < what.to {
-        let source = take_line(rt, lines, what.from, TRIES, shares);
-        let target = take_line(rt, lines, what.to, TRIES, shares);
-        return (source, target);
+    if one < other {
+        let first = take_line(rt, lines, one, TRIES, shares);
+        let second = take_line(rt, lines, other, TRIES, shares);
+        return (first, second);
     }
-    let target = take_line(rt, lines, what.to, TRIES, shares);
-    let source = take_line(rt, lines, what.from, TRIES, shares);
-    (source, target)
+    let second = take_line(rt, lines, other, TRIES, shares);
+    let first = take_line(rt, lines, one, TRIES, shares);
+    (first, second)
 }
 
 /// Unlocks the two lines of a move, the higher one first. It never blocks and does not allocate.
@@ -159,7 +160,7 @@ impl<K: Log> SeatShares<K> {
         let Move { from, reader, to } = what;
         receipt.make_pair()?;
         self.show();
-        let (mut source, mut target) = take_both(rt, lines, what, self);
+        let (mut source, mut target) = take_both(rt, lines, from, to, self);
         let most = tag.stamp.max(source.stamp()).max(target.stamp());
         let Some(tag) = tag_after(tag, most) else {
             return Ok(AtOnce::NotDone);

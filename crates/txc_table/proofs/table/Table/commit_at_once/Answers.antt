@@ -1,20 +1,14 @@
-use Rattle.std.proofs.Common.{◌≡◌, ◌∙◌, ◌<◌, sym, ap, subst, arith, List, IfOk, length, slice_get}
+use Rattle.std.proofs.Common.{◌≡◌, ◌∙◌, ◌<◌, sym, ap, subst, arith, List, length, slice_get}
 use Rattle.std.proofs.lemmas.List.{length-map}
-use Rattle.std.specs.Prelude.{Result, Ok, Err}
 use Rattle.txc_base.specs.declared.kind.Kind.{Kind}
 use Rattle.txc_base.specs.Op.{chan_of}
 use Rattle.txc_txn_check.specs.Steps.{Fits}
 use Rattle.txc_table_line.specs.SeatShare.{SeatShareView}
 use Rattle.txc_table_lines.specs.Lines.{line_ids}
 use Rattle.txc_table.specs.Table.{TableView}
-use Rattle.txc_table.proofs.AtOnce.{kept_at_once, line_supports, only_declared, retried_at_once}
+use Rattle.txc_table.proofs.AtOnce.{kept_at_once, line_supports, ok_map, only_declared, retried_at_once}
 use Rattle.txc_table.proofs.Trying.{kinds_within}
 use Rattle.txc_table.proofs.table.Table.commit_at_once.Goals as goal
-
--- what follows from what is true of a result
-ok_map : {A E : Type 0} (P Q : A → Type 0) (r : Result A E) → ((x : A) → P x → Q x) → IfOk r P → IfOk r Q
-ok_map P Q (Ok x) f is = f x is
-ok_map P Q (Err e) f is = tt
 
 pub commit_one-requires-clause-there : goal.commit_one-requires-clause-there
 commit_one-requires-clause-there g c =

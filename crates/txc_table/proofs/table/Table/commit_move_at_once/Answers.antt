@@ -1,6 +1,5 @@
-use Rattle.std.proofs.Common.{◌≡◌, ◌∙◌, ◌<◌, sym, ap, subst, arith, List, IfOk, length, slice_get}
+use Rattle.std.proofs.Common.{◌≡◌, ◌∙◌, ◌<◌, sym, ap, subst, arith, List, length, slice_get}
 use Rattle.std.proofs.lemmas.List.{length-map}
-use Rattle.std.specs.Prelude.{Result, Ok, Err}
 use Rattle.txc_base.specs.declared.kind.Kind.{Kind}
 use Rattle.txc_base.specs.declared.op.Op.TheVariants.{Read, Write}
 use Rattle.txc_base.specs.declared.source.Source.TheVariants.{Last}
@@ -9,15 +8,11 @@ use Rattle.txc_txn.specs.TwoOperations.{lower_first, move_steps}
 use Rattle.txc_table_line.specs.SeatShare.{SeatShareView}
 use Rattle.txc_table_lines.specs.Lines.{line_ids}
 use Rattle.txc_table.specs.Table.{TableView}
+use Rattle.txc_table.proofs.AtOnce.{ok_map}
 use Rattle.txc_table.proofs.MoveAtOnce.{both_there, from_declared, kept_as, line_fits, read_fits, retried_as}
 use Rattle.txc_table.proofs.MoveAtOnce.{returned_as, to_declared, write_fits}
 use Rattle.txc_table.proofs.Trying.{kinds_within}
 use Rattle.txc_table.proofs.table.Table.commit_move_at_once.Goals as goal
-
--- what follows from what is true of a result
-ok_map : {A E : Type 0} (P Q : A → Type 0) (r : Result A E) → ((x : A) → P x → Q x) → IfOk r P → IfOk r Q
-ok_map P Q (Ok x) f is = f x is
-ok_map P Q (Err e) f is = tt
 
 pub commit_move-requires-clause-from : goal.commit_move-requires-clause-from
 commit_move-requires-clause-from g c =

@@ -33,8 +33,8 @@ returns-in_default-clause-once g c not =
     most_is c.args.tag.stamp s.stamp t.stamp c.stamp.result c.stamp-2.result c.max.result c.max-most.result
     c.max.ensures c.stamp.ensures.value c.max-most.ensures c.stamp-2.ensures.value in
     worn_move c.args.tag c.args.what.from c.args.what.reader c.args.what.to s t c.args.self.now c.show.ensures
-    c.requires.apart (found_logged _ _ c.take_both-source.ensures.source)
-    (found_logged _ _ c.take_both-source.ensures.target)
+    c.requires.apart (found_logged _ _ c.take_both-source.ensures.one)
+    (found_logged _ _ c.take_both-source.ensures.other)
     (subst (λ k. (is_worn c.args.tag.serial || is_worn k) ≡ true) most c.in_default.ensures.none)
 
 pub returns-in-Err-clause-retry : goal.returns-in-Err-clause-retry
@@ -48,7 +48,7 @@ returns-in-Err-clause-retry g c cause is =
     c.max.ensures c.stamp.ensures.value c.max-most.ensures c.stamp-2.ensures.value in
     let begins : Begins c.args.tag c.in-Some.tag c.args.what.from c.args.what.to s t c.args.self.now =
     begins_move c.args.tag c.in-Some.tag c.args.what.from c.args.what.to c.max-most.result source target
-    c.args.self.now c.requires.apart c.take_both-source.ensures.source c.take_both-source.ensures.target most
+    c.args.self.now c.requires.apart c.take_both-source.ensures.one c.take_both-source.ensures.other most
     c.in-Some.ensures.some in
     let same : c.log_len-place.new.self ≡ source = c.log_len-place.ensures.same ∙ c.stamp.ensures.same in
     let waits : operate s.channel c.in-Some.tag.seat None (Read c.args.what.from c.args.what.reader) ≡ Waits cause =
@@ -69,7 +69,7 @@ returns-in-Err-clause-once g c not =
     c.max.ensures c.stamp.ensures.value c.max-most.ensures c.stamp-2.ensures.value in
     let begins : Begins c.args.tag c.in-Some.tag c.args.what.from c.args.what.to s t c.args.self.now =
     begins_move c.args.tag c.in-Some.tag c.args.what.from c.args.what.to c.max-most.result source target
-    c.args.self.now c.requires.apart c.take_both-source.ensures.source c.take_both-source.ensures.target most
+    c.args.self.now c.requires.apart c.take_both-source.ensures.one c.take_both-source.ensures.other most
     c.in-Some.ensures.some in
     let same : c.log_len-place.new.self ≡ source = c.log_len-place.ensures.same ∙ c.stamp.ensures.same in
     read_none c.args.tag c.in-Some.tag c.args.what.from c.args.what.reader c.args.what.to s t c.args.self.now
@@ -89,7 +89,7 @@ returns-in_default-2-clause-retry g c cause is =
     c.max.ensures c.stamp.ensures.value c.max-most.ensures c.stamp-2.ensures.value in
     let begins : Begins c.args.tag c.in-Some.tag c.args.what.from c.args.what.to s t c.args.self.now =
     begins_move c.args.tag c.in-Some.tag c.args.what.from c.args.what.to c.max-most.result source target
-    c.args.self.now c.requires.apart c.take_both-source.ensures.source c.take_both-source.ensures.target most
+    c.args.self.now c.requires.apart c.take_both-source.ensures.one c.take_both-source.ensures.other most
     c.in-Some.ensures.some in
     let same : c.log_len-place.new.self ≡ source = c.log_len-place.ensures.same ∙ c.stamp.ensures.same in
     let mid : Logged = c.take_item.new.source.held.logged in
@@ -117,7 +117,7 @@ returns-in_default-2-clause-once g c not =
     c.max.ensures c.stamp.ensures.value c.max-most.ensures c.stamp-2.ensures.value in
     let begins : Begins c.args.tag c.in-Some.tag c.args.what.from c.args.what.to s t c.args.self.now =
     begins_move c.args.tag c.in-Some.tag c.args.what.from c.args.what.to c.max-most.result source target
-    c.args.self.now c.requires.apart c.take_both-source.ensures.source c.take_both-source.ensures.target most
+    c.args.self.now c.requires.apart c.take_both-source.ensures.one c.take_both-source.ensures.other most
     c.in-Some.ensures.some in
     let same : c.log_len-place.new.self ≡ source = c.log_len-place.ensures.same ∙ c.stamp.ensures.same in
     let mid : Logged = c.take_item.new.source.held.logged in
@@ -147,7 +147,7 @@ settle_line-requires-clause-ready g c =
     c.max.ensures c.stamp.ensures.value c.max-most.ensures c.stamp-2.ensures.value in
     let begins : Begins c.args.tag c.in-Some.tag c.args.what.from c.args.what.to s t c.args.self.now =
     begins_move c.args.tag c.in-Some.tag c.args.what.from c.args.what.to c.max-most.result source target
-    c.args.self.now c.requires.apart c.take_both-source.ensures.source c.take_both-source.ensures.target most
+    c.args.self.now c.requires.apart c.take_both-source.ensures.one c.take_both-source.ensures.other most
     c.in-Some.ensures.some in
     let same : c.log_len-place.new.self ≡ source = c.log_len-place.ensures.same ∙ c.stamp.ensures.same in
     let mid : Logged = c.take_item.new.source.held.logged in
@@ -169,7 +169,7 @@ returns-clause-done g c is =
     c.max.ensures c.stamp.ensures.value c.max-most.ensures c.stamp-2.ensures.value in
     let begins : Begins c.args.tag c.in-Some.tag c.args.what.from c.args.what.to s t c.args.self.now =
     begins_move c.args.tag c.in-Some.tag c.args.what.from c.args.what.to c.max-most.result source target
-    c.args.self.now c.requires.apart c.take_both-source.ensures.source c.take_both-source.ensures.target most
+    c.args.self.now c.requires.apart c.take_both-source.ensures.one c.take_both-source.ensures.other most
     c.in-Some.ensures.some in
     let same : c.log_len-place.new.self ≡ source = c.log_len-place.ensures.same ∙ c.stamp.ensures.same in
     let mid : Logged = c.take_item.new.source.held.logged in
