@@ -10,8 +10,8 @@ One check tries many mutants, each in the body of another function. The checker 
 without a proof, and a change of a body leaves the goals of the other functions as they are. So a mutant is rejected if
 a goal of its own function has no proof. A mutant about which such a check decides nothing, or which changes another
 text than one body, is tried alone, as `rt must-fail` tries it. At most N checks run side by side: by default as many as
-there are processors and memory for. What takes long in a check are the goals without a proof, so many mutants are tried
-in several checks.
+there are processors and memory for. Goals without a proof take longest in a check, and therefore large rounds are
+divided.
 
 Each mutant counts by itself. The last line is 'N passed, M failed'.
 """
@@ -103,7 +103,7 @@ def rounds_of(crate, edits):
 
 
 def split(rounds, jobs):
-    """These rounds in parts, so that so many checks side by side end at about the same time."""
+    """These rounds, the large ones divided, for this number of checks side by side: they end at about the same time."""
     mutants = sum(map(len, rounds))
     most = max(FEWEST, -(-mutants // (2 * jobs)))
     parts = []
