@@ -1,6 +1,7 @@
 #!/usr/bin/env python3
-"""edits.py [--jobs N] CRATE..: tries all mutants of these crates and reports those that the checker doesn't reject.
-edits.py [--jobs N] --all: tries the mutants of all crates.
+"""edits.py [--jobs N] [--anew] CRATE..: tries all mutants of these crates and reports those that the checker doesn't
+reject.
+edits.py [--jobs N] [--anew] --all: tries the mutants of all crates.
 edits.py --apply: reports the mutants of all crates that can't be applied. It proves nothing and takes a second.
 
 A mutant is a file of crates/CRATE/must-fail/ or crates/CRATE/edits/ (tools/edit_files.py). All work is done in a copy
@@ -13,10 +14,14 @@ text than one body, is tried alone, as `rt must-fail` tries it. At most N checks
 there are processors and memory for. Goals without a proof take longest in a check, and therefore large rounds are
 divided.
 
+A mutant that an earlier run on this machine rejected counts as rejected, if it and all that its crate is proved from
+are as they were; with --anew it is tried again. So a run that was interrupted continues where it was.
+
 Each mutant counts by itself. The last line is 'N passed, M failed'.
 """
 import argparse
 import concurrent.futures
+import hashlib
 import importlib.machinery
 import importlib.util
 import os
@@ -113,6 +118,43 @@ def split(rounds, jobs):
     return sorted(parts, key=len, reverse=True)
 
 
+class Rejections:
+    """The mutants of one crate that runs on this machine rejected: a file for each, which holds the seconds that it
+    took. Its name is a checksum of the mutant, the toolchain and all that the crate is proved from."""
+
+    FOLDER = Path(os.environ.get("XDG_CACHE_HOME") or Path.home() / ".cache") / "yalwythen" / "rejections"
+
+    def __init__(self, crate):
+        toolchain = subprocess.run(["rt", "version"], stdout=subprocess.PIPE, check=True).stdout
+        self.sources = hashlib.sha256(toolchain + crate.stamp().encode())
+        self.added = []
+
+    def file_of(self, edit):
+        found = self.sources.copy()
+        found.update(repr((edit.name, edit.read_bytes())).encode())
+        return self.FOLDER / found.hexdigest()
+
+    def seconds_of(self, edit):
+        """How long it took to reject a mutant, or None if no run rejected it."""
+        try:
+            return float(self.file_of(edit).read_text(encoding="utf-8"))
+        except (OSError, ValueError):
+            return None
+
+    def add(self, edits, begun):
+        """Notes that one check, begun at this time, rejected these mutants."""
+        each = (time.monotonic() - begun) / max(1, len(edits))
+        self.FOLDER.mkdir(parents=True, exist_ok=True)
+        for edit in edits:
+            self.file_of(edit).write_text(f"{each:.1f}\n", encoding="utf-8")
+            self.added.append(edit)
+
+    def take_back(self):
+        """Removes what `add` noted in this run."""
+        for edit in self.added:
+            self.file_of(edit).unlink(missing_ok=True)
+
+
 def can_be_applied(crate, edits):
     try:
         edit_files.texts_of(crate, edits)
@@ -124,8 +166,8 @@ def can_be_applied(crate, edits):
 class Trial:
     """The mutants of one crate, tried in a copy of it that has been proved."""
 
-    def __init__(self, rt, crate, edits):
-        self.rt, self.crate, self.edits = rt, crate, edits
+    def __init__(self, rt, crate, edits, rejections):
+        self.rt, self.crate, self.edits, self.rejections = rt, crate, edits, rejections
         self.folder = Path(crate.folder)
         self.kept = self.folder / "out" / "incremental"
 
@@ -140,6 +182,7 @@ class Trial:
             found = len(rejected) + sum(pool.map(self.alone, alone))
         # Each check has links to these files.
         if listing(self.kept) != before:
+            self.rejections.take_back()
             raise Fault(f"{self.crate.name}: a check changed what the proof of the crate kept")
         return found
 
@@ -159,6 +202,7 @@ class Trial:
         found = rejected_in(self.rt, ran.stdout, texts, chosen)
         if found is None:
             return self.by_halves(chosen)
+        self.rejections.add(found, begun)
         report(f"{self.crate.name}: {len(found)} of {len(edits)} rejected in one check, {seconds_since(begun)}")
         return found
 
@@ -180,6 +224,8 @@ class Trial:
         flags = ["--jobs", "1"]
         kind, said = self.over_kept(lambda kept: self.rt.must_fail(self.crate, str(edit), flags, kept))
         is_rejected = is_rejection(self.rt, kind)
+        if is_rejected:
+            self.rejections.add([edit], begun)
         report(f"{name_of(edit)}: rejected, tried alone, {seconds_since(begun)}" if is_rejected else said)
         return is_rejected
 
@@ -250,7 +296,7 @@ def most_at_once(rt, crate, jobs):
     return next(it for it in range(jobs, 0, -1) if it == 1 or rt.rtlib.fits(*[memory] * it))
 
 
-def try_crate(rt, name, jobs):
+def try_crate(rt, name, jobs, is_anew):
     """How many mutants of a crate are rejected, and how many not."""
     scratch = [edit_files.ROOT / "tools" / "scratch.sh", name]
     place = subprocess.run(scratch, stdout=subprocess.PIPE, text=True, check=True).stdout.strip()
@@ -264,8 +310,16 @@ def try_crate(rt, name, jobs):
         edits = edit_files.edits_of(Path(crate.folder))
         if not edits:
             raise Fault(f"{name} has no mutants")
-        prove(rt, crate, jobs)
-        passed = Trial(rt, crate, edits).run(most_at_once(rt, crate, jobs))
+        rejections = Rejections(crate)
+        seconds = {} if is_anew else {it: rejections.seconds_of(it) for it in edits}
+        left = [it for it in edits if seconds.get(it) is None]
+        passed = len(edits) - len(left)
+        if passed:
+            took = sum(seconds[it] for it in edits if it not in left)
+            report(f"{name}: {passed} of {len(edits)} rejected by earlier runs, in {took:.0f} s of checks")
+        if left:
+            prove(rt, crate, jobs)
+            passed += Trial(rt, crate, left, rejections).run(most_at_once(rt, crate, jobs))
         return passed, len(edits) - passed
     except Fault as fault:
         report(str(fault))
@@ -294,12 +348,12 @@ def apply_all():
     return passed, failed
 
 
-def try_all(names, jobs):
+def try_all(names, jobs, is_anew):
     """How many mutants of these crates are rejected, and how many not."""
     rt = toolchain()
     # Its first call sets a signal's handler, which only the main thread may.
     rt.rtlib.guarded()
-    counts = [try_crate(rt, name, jobs or rt.rtlib.cores()) for name in names]
+    counts = [try_crate(rt, name, jobs or rt.rtlib.cores(), is_anew) for name in names]
     return tuple(map(sum, zip(*counts)))
 
 
@@ -307,6 +361,7 @@ def words_of(words):
     parser = argparse.ArgumentParser(usage=__doc__, add_help=False)
     parser.add_argument("--apply", action="store_true")
     parser.add_argument("--all", action="store_true")
+    parser.add_argument("--anew", action="store_true")
     parser.add_argument("--jobs", type=int, default=0)
     parser.add_argument("crates", nargs="*")
     found = parser.parse_args(words)
@@ -334,7 +389,7 @@ def main(words):
         signal.signal(it, end)
     try:
         names = [it.name for it in crates_with_edits()] if found.all else found.crates
-        passed, failed = apply_all() if found.apply else try_all(names, found.jobs)
+        passed, failed = apply_all() if found.apply else try_all(names, found.jobs, found.anew)
     except Fault as fault:
         print(f"edits.py: {fault}")
         passed, failed = 0, 1
