@@ -3,7 +3,7 @@ use Rattle.std.proofs.Common.{◌≡◌, refl, sym, ◌∙◌, ap, ℕ, ◌+◌,
 use Rattle.std.proofs.Common.{slice_index_or, append_assoc, Result, Ok, Err}
 use Rattle.std.proofs.lemmas.List.{drop_more, append-nil}
 use Rattle.std.proofs.Math.ListN.{drop_of_length-le}
-use Rattle.txc_cmd_script.specs.Steps.{mapped, in_order}
+use Rattle.txc_cmd_script.specs.Steps.{mapped, collected}
 
 -- what was read, followed by the rest
 abbrev pub onto : {X E : Type 0} → List X → Result (List X) E → Result (List X) E
@@ -11,7 +11,7 @@ onto xs rest = mapped (λ ys. xs ++ ys) rest
 
 -- the first of the rest is the last that was read
 pub onto-more : {X E : Type 0} (xs : List X) (x : X) (rest : Result (List X) E)
-    → onto xs (in_order (Ok x) rest) ≡ onto (xs ++ x ∷ []) rest
+    → onto xs (collected (Ok x) rest) ≡ onto (xs ++ x ∷ []) rest
 onto-more xs x (Ok ys) = ap Ok (sym (append_assoc xs (x ∷ []) ys))
 onto-more xs x (Err e) = refl
 
@@ -24,7 +24,7 @@ drop_here vs i v lt is = drop_more vs i v lt ∙ ap (λ w. w ∷ drop (i + 1) vs
 pub read_more : {V X E : Type 0} (all later : List V → Result (List X) E) (vs : List V) (i : ℕ) (v : V) (xs : List X)
     (x : X) (whole : Result (List X) E)
     → i < length vs → v ≡ slice_index_or vs i v → whole ≡ onto xs (all (drop i vs))
-    → ((rest : List V) → all (v ∷ rest) ≡ in_order (Ok x) (later rest))
+    → ((rest : List V) → all (v ∷ rest) ≡ collected (Ok x) (later rest))
     → whole ≡ onto (xs ++ x ∷ []) (later (drop (i + 1) vs))
 read_more all later vs i v xs x whole lt is h first =
     h ∙ ap (λ l. onto xs (all l)) (drop_here vs i v lt is) ∙ ap (onto xs) (first (drop (i + 1) vs))

@@ -17,7 +17,7 @@ use Rattle.txc_cmd_script.specs.declared.fault.ScriptFault.{ScriptFault}
 use Rattle.txc_cmd_script.specs.declared.fault.ScriptFault.TheVariants.{Shape, TooLarge}
 use Rattle.txc_cmd_script.specs.Reading.{max_bytes, declared_in, unless_faulty, decl_in, decls_in, transaction_in}
 use Rattle.txc_cmd_script.specs.Reading.{transactions_in, seat_in, seats_in, script_of, script_in}
-use Rattle.txc_cmd_script.specs.Steps.{or_fault, then_reads, in_order}
+use Rattle.txc_cmd_script.specs.Steps.{or_fault, then_reads, collected}
 use Rattle.txc_cmd_script.proofs.Orders.{onto, read_more, read_fault, read_all}
 use Rattle.txc_cmd_script.proofs.TreeLemmas.{tree_of-text}
 
@@ -84,7 +84,7 @@ pub decls_fault : (vs : List Value) (i : ℕ) (v : Value) (xs : List Decl) (e : 
     → whole ≡ onto xs (decls_in i (map view (drop i vs))) → Err e ≡ decl_in i (view v) → whole ≡ Err e
 decls_fault vs i v xs e whole lt is h one =
     read_fault (λ l. decls_in i (map view l)) vs i v xs e whole lt is h
-    (λ rest. ap (λ d. in_order d (decls_in (suc i) (map view rest))) (sym one))
+    (λ rest. ap (λ d. collected d (decls_in (suc i) (map view rest))) (sym one))
 
 -- no more channels are left
 pub decls_all : (vs : List Value) (i : ℕ) (xs : List Decl) (whole : Result (List Decl) ScriptFault) → length vs ≤ i
@@ -110,7 +110,7 @@ pub transactions_fault : (kinds : List Kind) (seat : ℕ) (vs : List Value) (i :
     → transaction_in kinds seat i (view v) ≡ Err e → whole ≡ Err e
 transactions_fault kinds seat vs i v xs e whole lt is h one =
     read_fault (λ l. transactions_in kinds seat i (map view l)) vs i v xs e whole lt is h
-    (λ rest. ap (λ p. in_order p (transactions_in kinds seat (suc i) (map view rest))) one)
+    (λ rest. ap (λ p. collected p (transactions_in kinds seat (suc i) (map view rest))) one)
 
 -- no more transactions are left
 pub transactions_all : (kinds : List Kind) (seat : ℕ) (vs : List Value) (i : ℕ) (xs : List CheckedView)
@@ -137,7 +137,7 @@ pub seats_fault : (kinds : List Kind) (vs : List Value) (i : ℕ) (v : Value) (x
     → seat_in kinds i (view v) ≡ Err e → whole ≡ Err e
 seats_fault kinds vs i v xs e whole lt is h one =
     read_fault (λ l. seats_in kinds i (map view l)) vs i v xs e whole lt is h
-    (λ rest. ap (λ s. in_order s (seats_in kinds (suc i) (map view rest))) one)
+    (λ rest. ap (λ s. collected s (seats_in kinds (suc i) (map view rest))) one)
 
 -- no more seats are left
 pub seats_all : (kinds : List Kind) (vs : List Value) (i : ℕ) (xs : List (List CheckedView))

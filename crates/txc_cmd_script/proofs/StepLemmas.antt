@@ -20,7 +20,7 @@ use Rattle.txc_cmd_script.specs.declared.step_name.StepName.{StepName}
 use Rattle.txc_cmd_script.specs.declared.step_name.StepName.TheVariants as step_name
 use Rattle.txc_cmd_script.specs.Operations.{op_of}
 use Rattle.txc_cmd_script.specs.Tree.{list_of_items}
-use Rattle.txc_cmd_script.specs.Steps.{are_lists, or_fault, mapped, then_reads, in_order, simple_step, step_by}
+use Rattle.txc_cmd_script.specs.Steps.{are_lists, or_fault, mapped, then_reads, collected, simple_step, step_by}
 use Rattle.txc_cmd_script.specs.Steps.{step_name_in}
 use Rattle.txc_cmd_script.specs.Steps.{step_named, step_in_tree, step_in_items, steps_in_tree, steps_in_items}
 use Rattle.txc_cmd_script.specs.Steps.{branches_in_items}
@@ -206,14 +206,14 @@ pub steps_more : (vs : List Value) (i : ℕ) (v : Value) (xs : List Step) (x : S
     → whole ≡ onto (xs ++ x ∷ []) (steps_in_items (items_view (drop (i + 1) vs)))
 steps_more vs i v xs x whole lt is h one =
     read_more (λ l. steps_in_items (items_view l)) (λ l. steps_in_items (items_view l)) vs i v xs x whole lt is h
-    (λ rest. ap (λ s. in_order s (steps_in_items (items_view rest))) one)
+    (λ rest. ap (λ s. collected s (steps_in_items (items_view rest))) one)
 
 pub steps_fault : (vs : List Value) (i : ℕ) (v : Value) (xs : List Step) (e : StepFault)
     (whole : Result (List Step) StepFault) → i < length vs → v ≡ slice_index_or vs i v
     → whole ≡ onto xs (steps_in_items (items_view (drop i vs))) → step_in_tree (view v) ≡ Err e → whole ≡ Err e
 steps_fault vs i v xs e whole lt is h one =
     read_fault (λ l. steps_in_items (items_view l)) vs i v xs e whole lt is h
-    (λ rest. ap (λ s. in_order s (steps_in_items (items_view rest))) one)
+    (λ rest. ap (λ s. collected s (steps_in_items (items_view rest))) one)
 
 pub steps_all : (vs : List Value) (i : ℕ) (xs : List Step) (whole : Result (List Step) StepFault) → length vs ≤ i
     → whole ≡ onto xs (steps_in_items (items_view (drop i vs))) → whole ≡ Ok xs
@@ -232,14 +232,14 @@ pub branches_more : (vs : List Value) (i : ℕ) (v : Value) (xs : List (List Ste
     → whole ≡ onto (xs ++ x ∷ []) (branches_in_items (items_view (drop (i + 1) vs)))
 branches_more vs i v xs x whole lt is h one =
     read_more (λ l. branches_in_items (items_view l)) (λ l. branches_in_items (items_view l)) vs i v xs x whole lt is h
-    (λ rest. ap (λ s. in_order s (branches_in_items (items_view rest))) one)
+    (λ rest. ap (λ s. collected s (branches_in_items (items_view rest))) one)
 
 pub branches_fault : (vs : List Value) (i : ℕ) (v : Value) (xs : List (List Step)) (e : StepFault)
     (whole : Result (List (List Step)) StepFault) → i < length vs → v ≡ slice_index_or vs i v
     → whole ≡ onto xs (branches_in_items (items_view (drop i vs))) → steps_in_tree (view v) ≡ Err e → whole ≡ Err e
 branches_fault vs i v xs e whole lt is h one =
     read_fault (λ l. branches_in_items (items_view l)) vs i v xs e whole lt is h
-    (λ rest. ap (λ s. in_order s (branches_in_items (items_view rest))) one)
+    (λ rest. ap (λ s. collected s (branches_in_items (items_view rest))) one)
 
 pub branches_all : (vs : List Value) (i : ℕ) (xs : List (List Step)) (whole : Result (List (List Step)) StepFault)
     → length vs ≤ i → whole ≡ onto xs (branches_in_items (items_view (drop i vs)))

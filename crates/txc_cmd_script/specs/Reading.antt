@@ -23,7 +23,7 @@ use Rattle.txc_cmd_script.specs.declared.steps.StepFault.{StepFault}
 use Rattle.txc_cmd_script.specs.declared.steps.StepFault.TheVariants as step_fault
 use Rattle.txc_chan.specs.Decls.{kinds_in}
 use Rattle.txc_cmd_script.specs.Script.{Script, max_channels, max_seats}
-use Rattle.txc_cmd_script.specs.Steps.{or_fault, mapped, then_reads, in_order, steps_in_tree}
+use Rattle.txc_cmd_script.specs.Steps.{or_fault, mapped, then_reads, collected, steps_in_tree}
 use Rattle.txc_cmd_script.specs.Tree.{tree_of, key_count, listed, whole_at, listed_at}
 
 -- the maximum size of a script, in bytes
@@ -82,7 +82,7 @@ decl_in chan tree =
 -- the channels, from this number on
 abbrev pub decls_in : ℕ → List Data → Result (List Decl) ScriptFault
 decls_in chan [] = Ok []
-decls_in chan (tree ∷ trees) = in_order (decl_in chan tree) (decls_in (suc chan) trees)
+decls_in chan (tree ∷ trees) = collected (decl_in chan tree) (decls_in (suc chan) trees)
 
 -- why steps are not read, as a fault of this transaction of this seat
 abbrev pub step_fault_in : ℕ → ℕ → StepFault → ScriptFault
@@ -110,7 +110,7 @@ transaction_in kinds seat txn tree =
 abbrev pub transactions_in : List Kind → ℕ → ℕ → List Data → Result (List CheckedView) ScriptFault
 transactions_in kinds seat txn [] = Ok []
 transactions_in kinds seat txn (tree ∷ trees) =
-    in_order (transaction_in kinds seat txn tree) (transactions_in kinds seat (suc txn) trees)
+    collected (transaction_in kinds seat txn tree) (transactions_in kinds seat (suc txn) trees)
 
 -- a seat: a list of transactions
 abbrev pub seat_in : List Kind → ℕ → Data → Result (List CheckedView) ScriptFault
@@ -119,7 +119,7 @@ seat_in kinds seat tree = then_reads (or_fault Shape (listed tree)) (transaction
 -- the seats, from this number on
 abbrev pub seats_in : List Kind → ℕ → List Data → Result (List (List CheckedView)) ScriptFault
 seats_in kinds seat [] = Ok []
-seats_in kinds seat (tree ∷ trees) = in_order (seat_in kinds seat tree) (seats_in kinds (suc seat) trees)
+seats_in kinds seat (tree ∷ trees) = collected (seat_in kinds seat tree) (seats_in kinds (suc seat) trees)
 
 -- seats on channels that were read: the number of seats is tested first
 abbrev pub with_seats : List Data → List Decl → Result Script ScriptFault

@@ -27,8 +27,8 @@ then_reads (Ok x) next = next x
 then_reads (Err fault) next = Err fault
 
 -- one result before the others; the first fault is that of all
-abbrev pub in_order : {X E : Type 0} → Result X E → Result (List X) E → Result (List X) E
-in_order first rest = then_reads first (λ x. mapped (λ xs. x ∷ xs) rest)
+abbrev pub collected : {X E : Type 0} → Result X E → Result (List X) E → Result (List X) E
+collected first rest = then_reads first (λ x. mapped (λ xs. x ∷ xs) rest)
 
 -- whether each of these trees is a list
 abbrev pub are_lists : Items → Bool
@@ -87,9 +87,9 @@ abbrev mutual
   -- steps, in order
   pub steps_in_items : Items → Result (List Step) StepFault
   steps_in_items no_items = Ok []
-  steps_in_items (item step rest) = in_order (step_in_tree step) (steps_in_items rest)
+  steps_in_items (item step rest) = collected (step_in_tree step) (steps_in_items rest)
 
   -- branches, in order
   pub branches_in_items : Items → Result (List (List Step)) StepFault
   branches_in_items no_items = Ok []
-  branches_in_items (item branch rest) = in_order (steps_in_tree branch) (branches_in_items rest)
+  branches_in_items (item branch rest) = collected (steps_in_tree branch) (branches_in_items rest)

@@ -62,8 +62,9 @@ impl Receipts for AllReceipts {
         self.list.as_slice().last()
     }
 
-    fn reserve(&mut self) -> Result<(), AllocError> {
-        self.list.reserve(1)
+    fn reserve(&mut self) -> Result<usize, AllocError> {
+        self.list.reserve(1)?;
+        Ok(self.list.len())
     }
 
     fn push_reserved(&mut self, alloc: Global, receipt: &mut Box<PaddedReceipt>) {

@@ -112,15 +112,22 @@ impl<S: Receipts> History<S> {
         }
     }
 
-    /// Makes room for one more receipt. Returns `AllocError` if allocation fails or if there would be more than
-    /// `GREATEST_NUMBER` receipts. The receipts do not change in either case. Allocates if each receipt stays in
-    /// memory.
-    pub fn reserve(&mut self) -> Result<(), AllocError>
+    /// Makes room for one more receipt and returns the tag for the next transaction, like `next_tag`. Returns
+    /// `AllocError` if allocation fails or if there would be more than `GREATEST_NUMBER` receipts. The receipts do not
+    /// change in either case. Allocates if each receipt stays in memory.
+    pub fn reserve(&mut self) -> Result<Tag, AllocError>
+        ensures tag { IfOk result (λ tag. tag ≡ next_tag self.old.commits) }
         ensures room { OnOk result (0 < self.new.room) }
         ensures same { self.new.commits ≡ self.old.commits }
         ensures channels { self.new.channels ≡ self.old.channels }
     {
-        self.receipts.reserve()
+        let serial = self.receipts.reserve()? as u64;
+        let stamp = self.stamp;
+        Ok(Tag {
+            seat: self.number,
+            serial,
+            stamp,
+        })
     }
 
     /// Adds the receipt of a committed transaction, which is in the draft, and returns its number. There must be room

@@ -60,12 +60,12 @@ impl Receipts for LastReceipt {
         Some(&self.last.receipt)
     }
 
-    fn reserve(&mut self) -> Result<(), AllocError> {
+    fn reserve(&mut self) -> Result<usize, AllocError> {
         // No memory bounds their number.
         if self.count == usize::MAX {
             return Err(AllocError);
         }
-        Ok(())
+        Ok(self.count)
     }
 
     fn push_reserved(&mut self, alloc: Global, receipt: &mut Box<PaddedReceipt>) {

@@ -31,9 +31,10 @@ pub trait Receipts: Drop {
         ensures some { IfSome result (λ receipt. last_receipt (all self.now) ≡ Some receipt.now) }
         ensures none { IfNone result (last_receipt (all self.now) ≡ None) };
 
-    /// Makes room for one more receipt. Returns `AllocError` if allocation fails or if there would be more than
-    /// `GREATEST_NUMBER` receipts. The receipts do not change in either case.
-    fn reserve(&mut self) -> Result<(), AllocError>
+    /// Makes room for one more receipt and returns the number of receipts. Returns `AllocError` if allocation fails or
+    /// if there would be more than `GREATEST_NUMBER` receipts. The receipts do not change in either case.
+    fn reserve(&mut self) -> Result<usize, AllocError>
+        ensures count { IfOk result (λ count. count ≡ length (all self.old)) }
         ensures room { OnOk result (0 < room self.new) }
         ensures same { all self.new ≡ all self.old };
 

@@ -1,7 +1,6 @@
 // A worker's handle of its table.
 ghost use Rattle.std.specs.Prelude.{◌≡◌, ◌<◌, ◌+◌, ◌↔◌, ℕ, IfOk, IfErr, IfSome, IsTrue, OnErr, OnOk};
 ghost use Rattle.std.specs.Prelude.{[], length, slice_get};
-ghost use Rattle.txc_base.specs.declared.cause.Cause.{Cause};
 ghost use Rattle.txc_txn_check.specs.Limits.{IsChecked};
 ghost use Rattle.txc_txn_check.specs.Steps.{Fits};
 ghost use Rattle.yalwythen_work.specs.Committed.{HasCommittedSteps, HasFailedWith, IsSnapshotError, IsTried};
@@ -13,7 +12,6 @@ ghost use Rattle.yalwythen_work.specs.SeatWithPlans.{IsAfterSession};
 ghost use Rattle.yalwythen_work.specs.Unready.{IsCheckError};
 ghost use Rattle.txc_table_line.specs.Account.{IsSummary};
 ghost use Rattle.txc_table_line.specs.Line.{decl_at};
-ghost use Rattle.txc_table.specs.Ended.{as_tried};
 ghost use Rattle.txc_table.specs.Table.{decls_of};
 ghost use Rattle.txc_table_seat.specs.Seated.{count, last_receipt};
 ghost use Rattle.txc_table.specs.Seen.{IsBroadcastAt, IsSeen};
@@ -101,18 +99,6 @@ fn ready(plans: &mut Plans, steps: Vec<Step>, kinds: &[Kind]) -> Result<Checked,
     Ok(plan)
 }
 
-/// Returns the number of the receipt of a transaction that ended like this. Fails with `Stalled` if it stalled.
-fn receipt_number(ended: Ended) -> Result<usize, TransactError>
-    ensures kept { IfOk result (λ number. as_tried ended ≡ Tried.Kept number) }
-    ensures stalled { IfErr result (λ error. (cause : Cause) × (error ≡ TransactError.Stalled cause)
-        × (as_tried ended ≡ Tried.Retry cause)) }
-{
-    match ended {
-        Ended::Kept(number) => Ok(number),
-        Ended::Stalled(cause) => Err(TransactError::Stalled(cause)),
-    }
-}
-
 /// Notes this transaction if this try of it committed. There must be capacity for it.
 fn note_if_kept(plans: &mut Plans, plan: Checked, tried: Tried)
     requires room { IsTrue plans.old.audited → 0 < plans.old.room }
@@ -186,10 +172,13 @@ impl<K: Recording> Session<'_, K> {
         ensures same { OnErr result (self.new ≡ self.old) }
     {
         let plan = ready(&mut self.plans, steps, self.table.kinds())?;
-        let ended = self.table.transact(rt, self.alloc, &mut self.seat, &plan)?;
-        let number = receipt_number(ended)?;
-        self.plans.note(plan);
-        Ok(number)
+        match self.table.transact(rt, self.alloc, &mut self.seat, &plan)? {
+            Ended::Kept(number) => {
+                self.plans.note(plan);
+                Ok(number)
+            }
+            Ended::Stalled(cause) => Err(TransactError::Stalled(cause)),
+        }
     }
 
     /// Tries these steps once as one transaction. Returns `Kept` with the number of the receipt if the transaction

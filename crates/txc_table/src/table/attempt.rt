@@ -32,7 +32,7 @@ use txc_table_interests::changed_by;
 use txc_table_lines::{AtOnce, Guards, SeatShares};
 use txc_table_seat::Receipts;
 use txc_table_wait::Seats;
-use txc_txn::{Checked, Deed, Ran, Receipt};
+use txc_txn::{Checked, Ran, Receipt};
 use txc_txn_check::Step;
 
 mod moving;
@@ -237,17 +237,16 @@ impl<K: Log> Table<K> {
             table_share: _,
             draft,
         } = seat;
-        history.reserve()?;
         // The draft is blank or a receipt that is no longer read, so each try sets the tag.
         let receipt = &mut draft.receipt;
-        receipt.tag = history.next_tag();
+        receipt.tag = history.reserve()?;
         let call = Call { alloc, checked };
         match self.run(rt, &call, shares, gate, receipt) {
             Ok(None) => {}
             Ok(Some(cause)) => return Ok(Tried::Retry(cause)),
             Err(stop) => return Err(stop),
         }
-        let registered = self.take_registered_for(history.number(), draft.receipt.acts.as_slice());
+        let registered = self.take_registered_for(receipt);
         shares.show();
         history.show();
         let number = history.keep(alloc, checked, draft);
@@ -255,19 +254,19 @@ impl<K: Log> Table<K> {
         Ok(Tried::Kept(number))
     }
 
-    /// Removes from the wait queue the seats that wait for what one of these acts changed, except the seat that
-    /// committed them.
-    fn take_registered_for(&self, seat: u16, acts: &[Deed]) -> Seats
-        ensures others { bit_at result.bits (seat % MAX_SEATS_OF_LARGE) ≡ 0 }
+    /// Removes from the wait queue the seats that wait for what one of the acts of a committed transaction changed,
+    /// except the seat that committed it.
+    fn take_registered_for(&self, receipt: &Receipt) -> Seats
+        ensures others { bit_at result.bits (receipt.now.tag.seat % MAX_SEATS_OF_LARGE) ≡ 0 }
     {
         let mut registered = Seats::none();
-        for deed in acts {
+        for deed in receipt.acts.as_slice() {
             registered = registered.union(
                 self.wait_queue
                     .take_registered(deed.chan, changed_by(&deed.act)),
             );
         }
-        registered.without(seat)
+        registered.without(receipt.tag.seat)
     }
 
     /// Tries a transaction once. Returns `Kept` with the number of its receipt in the seat if it commits, or `Retry`

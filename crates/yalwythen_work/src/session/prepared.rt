@@ -5,12 +5,13 @@ ghost use Rattle.yalwythen_work.specs.Committed.{IsPrepared};
 ghost use Rattle.yalwythen_work.specs.Committed.{HasCommittedPrepared};
 ghost use Rattle.yalwythen_work.specs.Committed.{HasPreparedFailedWith, last_item, replies_in};
 
-use super::{Session, receipt_number};
+use super::Session;
 use crate::answers::last_item;
 use crate::recording::Recording;
 use crate::transact_error::TransactError;
 use std::sync::Wait;
 use txc_base::Item;
+use txc_table::Ended;
 use txc_txn_check::{Checked, Step};
 
 /// A transaction that a session has checked once, and can run any number of times.
@@ -67,10 +68,13 @@ impl<K: Recording> Session<'_, K> {
             return Err(TransactError::Unprepared);
         };
         plan.show();
-        let ended = self.table.transact(rt, self.alloc, &mut self.seat, plan)?;
-        let receipt = receipt_number(ended)?;
-        self.plans.note_prepared(number);
-        Ok(receipt)
+        match self.table.transact(rt, self.alloc, &mut self.seat, plan)? {
+            Ended::Kept(receipt) => {
+                self.plans.note_prepared(number);
+                Ok(receipt)
+            }
+            Ended::Stalled(cause) => Err(TransactError::Stalled(cause)),
+        }
     }
 
     /// Runs a prepared transaction of this session like `transact`, and returns the number of its receipt. Fails with

@@ -20,9 +20,8 @@ pub returns-in-Err-clause-outcome : goal.returns-in-Err-clause-outcome
 returns-in-Err-clause-outcome g c =
     let declared : List ℕ = c.args.checked.now.declared in
     let steps : List Step = c.args.checked.now.steps in
-    let tag_is : c.next_tag-receipt.result ≡ next_tag c.args.seat.now.commits =
-    c.next_tag-receipt.ensures
-    ∙ ap next_tag (c.reserve.ensures.same ∙ ap (λ (s : SeatView). s.commits) c.seat.view_is) in
+    let tag_is : c.in_ok-receipt.field-0 ≡ next_tag c.args.seat.now.commits =
+    c.in_ok-receipt.ensures.tag ∙ ap next_tag (ap (λ (s : SeatView). s.commits) c.seat.view_is) in
     record {
       returned = tt;
       sees = tt;
@@ -39,7 +38,7 @@ returns-in-Err-clause-outcome g c =
 pub keep-number-requires-clause-inside : goal.keep-number-requires-clause-inside
 keep-number-requires-clause-inside g c =
     let r : Receipt = c.run.new.receipt in
-    let kept : IsKeptWith c.next_tag-receipt.result c.args.checked.now c.seat.inside.shares c.run.new.shares r =
+    let kept : IsKeptWith c.in_ok-receipt.field-0 c.args.checked.now c.seat.inside.shares c.run.new.shares r =
     rw c.in-Ok-None.field-0-is at c.in-Ok-None.ensures.kept in
     let channels : length c.run.new.shares ≡ c.reserve.new.self.channels =
     same_many c.seat.inside.shares c.run.new.shares c.run.ensures.lines
@@ -50,18 +49,18 @@ pub keep-number-requires-clause-few : goal.keep-number-requires-clause-few
 keep-number-requires-clause-few g c =
     let rs : List Receipt = c.seat.inside.history.commits.receipts in
     let r : Receipt = c.run.new.receipt in
-    let kept : IsKeptWith c.next_tag-receipt.result c.args.checked.now c.seat.inside.shares c.run.new.shares r =
+    let kept : IsKeptWith c.in_ok-receipt.field-0 c.args.checked.now c.seat.inside.shares c.run.new.shares r =
     rw c.in-Ok-None.field-0-is at c.in-Ok-None.ensures.kept in
     subst (λ (s : SeatCommits). (n : ℕ) → n < c.reserve.new.self.channels → count n s.receipts + count_deeds n r.acts
     ≤ GREATEST_NUMBER)
     (sym c.reserve.ensures.same)
-    (λ n below. few_more c.next_tag-receipt.result c.args.checked.now c.seat.inside.shares c.run.new.shares rs r
+    (λ n below. few_more c.in_ok-receipt.field-0 c.args.checked.now c.seat.inside.shares c.run.new.shares rs r
     c.seat.invariant.counted kept c.show.ensures n)
 
 pub invariant_of-seat-2 : goal.invariant_of-seat-2
 invariant_of-seat-2 g c =
     let r : Receipt = c.run.new.receipt in
-    let kept : IsKeptWith c.next_tag-receipt.result c.args.checked.now c.seat.inside.shares c.run.new.shares r =
+    let kept : IsKeptWith c.in_ok-receipt.field-0 c.args.checked.now c.seat.inside.shares c.run.new.shares r =
     rw c.in-Ok-None.field-0-is at c.in-Ok-None.ensures.kept in
     let commits : c.reserve.new.self.commits ≡ c.seat.inside.history.commits =
     c.reserve.ensures.same in
@@ -69,9 +68,9 @@ invariant_of-seat-2 g c =
     c.keep-number.ensures.channels ∙ c.reserve.ensures.channels in
     subst (λ n. IsSeated c.run.new.shares c.keep-number.new.self.commits n c.seat.inside.table_share.parts)
     (sym channels)
-    (seated_more c.next_tag-receipt.result c.args.checked.now c.seat.inside.shares c.run.new.shares
+    (seated_more c.in_ok-receipt.field-0 c.args.checked.now c.seat.inside.shares c.run.new.shares
     c.seat.inside.history.commits c.keep-number.new.self.commits r c.seat.invariant kept c.run.ensures.lines
-    (c.next_tag-receipt.ensures ∙ ap next_tag c.reserve.ensures.same)
+    c.in_ok-receipt.ensures.tag
     (subst (λ (s : SeatCommits). length s.plans ≡ length s.receipts) commits c.show-2.ensures.even)
     (subst (λ (s : SeatCommits). StampsRise 0 s.stamp s.receipts) commits c.show-2.ensures.stamped)
     (c.keep-number.ensures.kept ∙ ap (λ (s : SeatCommits). with_receipt s c.args.checked.now r) commits))
@@ -82,11 +81,11 @@ returns-in-Ok-Some-clause-outcome g c =
     let steps : List Step = c.args.checked.now.steps in
     let commits : c.reserve.new.self.commits ≡ c.args.seat.now.commits =
     c.reserve.ensures.same ∙ ap (λ (s : SeatView). s.commits) c.seat.view_is in
-    let tag_is : c.next_tag-receipt.result ≡ next_tag c.args.seat.now.commits = c.next_tag-receipt.ensures
-    ∙ ap next_tag (c.reserve.ensures.same ∙ ap (λ (s : SeatView). s.commits) c.seat.view_is) in
+    let tag_is : c.in_ok-receipt.field-0 ≡ next_tag c.args.seat.now.commits =
+    c.in_ok-receipt.ensures.tag ∙ ap next_tag (ap (λ (s : SeatView). s.commits) c.seat.view_is) in
     let found = c.in-Ok-Some.ensures.outcome in
-    let again = answers_retry (kept_tag found.0 c.next_tag-receipt.result declared)
-    (transaction found.0 c.next_tag-receipt.result declared steps) (ran_of c.in-Ok-Some.field-0 c.run.new.receipt)
+    let again = answers_retry (kept_tag found.0 c.in_ok-receipt.field-0 declared)
+    (transaction found.0 c.in_ok-receipt.field-0 declared steps) (ran_of c.in-Ok-Some.field-0 c.run.new.receipt)
     c.in-Ok-Some.cause (ap (λ e. ran_of e c.run.new.receipt) c.in-Ok-Some.field-0-is) found.2 in
     record {
       returned = (
@@ -107,13 +106,13 @@ returns-clause-outcome g c =
     let r : Receipt = c.run.new.receipt in
     let commits : c.reserve.new.self.commits ≡ c.args.seat.now.commits =
     c.reserve.ensures.same ∙ ap (λ (s : SeatView). s.commits) c.seat.view_is in
-    let tag_is : c.next_tag-receipt.result ≡ next_tag c.args.seat.now.commits = c.next_tag-receipt.ensures
-    ∙ ap next_tag (c.reserve.ensures.same ∙ ap (λ (s : SeatView). s.commits) c.seat.view_is) in
+    let tag_is : c.in_ok-receipt.field-0 ≡ next_tag c.args.seat.now.commits =
+    c.in_ok-receipt.ensures.tag ∙ ap next_tag (ap (λ (s : SeatView). s.commits) c.seat.view_is) in
     let found = c.in-Ok-None.ensures.outcome in
-    let answers = answers_kept (kept_tag found.0 c.next_tag-receipt.result declared)
-    (transaction found.0 c.next_tag-receipt.result declared steps) (ran_of c.in-Ok-None.field-0 r) r
+    let answers = answers_kept (kept_tag found.0 c.in_ok-receipt.field-0 declared)
+    (transaction found.0 c.in_ok-receipt.field-0 declared steps) (ran_of c.in-Ok-None.field-0 r) r
     (ap (λ e. ran_of e r) c.in-Ok-None.field-0-is) found.2 in
-    let kept : IsKeptWith c.next_tag-receipt.result c.args.checked.now c.seat.inside.shares c.run.new.shares r =
+    let kept : IsKeptWith c.in_ok-receipt.field-0 c.args.checked.now c.seat.inside.shares c.run.new.shares r =
     rw c.in-Ok-None.field-0-is at c.in-Ok-None.ensures.kept in
     record {
       returned = (
