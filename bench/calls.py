@@ -23,7 +23,8 @@ SECONDS = 300
 OURS = re.compile(r"(?:txc_|yalwythen|chanrun)")
 # Functions that show something to a proof, ghost state, what a `List` hands on, and what the compiler writes: the end
 # of a value, and the conversion of an error.
-LEFT_OUT = re.compile(r"::show\w*$|^txc_base_ghost|^txc_base_ledger|ghost_list|::seen(?:_marks)?$|list::List::|drop|from_residual")
+LEFT_OUT = re.compile(r"::show\w*$|^txc_base_ghost|^txc_base_ledger|ghost_list|::seen(?:_marks)?$|list::List::|drop"
+                      r"|from_residual")
 
 
 def calls_of(lines):
