@@ -19,6 +19,7 @@ import compiled
 # How many writes bench/write.rattle makes.
 TIMES = 60
 SCRIPT = b'{"version": 1, "channels": [{"kind": "TQueue"}], "seats": [[[["write", 0, 7]]]]}'
+# A run under callgrind takes some seconds.
 SECONDS = 300
 OURS = re.compile(r"(?:txc_|yalwythen|chanrun)")
 # Functions that show something to a proof, ghost state, what a `List` hands on, and what the compiler writes: the end

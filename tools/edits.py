@@ -149,10 +149,14 @@ class Rejections:
             self.file_of(edit).write_text(f"{each:.1f}\n", encoding="utf-8")
             self.added.append(edit)
 
+    def forget(self, edits):
+        """Removes what any run noted of these mutants."""
+        for edit in edits:
+            self.file_of(edit).unlink(missing_ok=True)
+
     def take_back(self):
         """Removes what `add` noted in this run."""
-        for edit in self.added:
-            self.file_of(edit).unlink(missing_ok=True)
+        self.forget(self.added)
 
 
 def can_be_applied(crate, edits):
@@ -311,8 +315,10 @@ def try_crate(rt, name, jobs, is_anew):
         if not edits:
             raise Fault(f"{name} has no mutants")
         rejections = Rejections(crate)
-        seconds = {} if is_anew else {it: rejections.seconds_of(it) for it in edits}
-        left = [it for it in edits if seconds.get(it) is None]
+        if is_anew:
+            rejections.forget(edits)
+        seconds = {it: rejections.seconds_of(it) for it in edits}
+        left = [it for it in edits if seconds[it] is None]
         passed = len(edits) - len(left)
         if passed:
             took = sum(seconds[it] for it in edits if it not in left)
