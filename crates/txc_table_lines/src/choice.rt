@@ -8,11 +8,11 @@ ghost use Rattle.txc_table_lines.specs.Choice.{FirstWaits, IsCommittedChoice, Is
 ghost use Rattle.txc_table_lines.specs.Guards.{IsFound};
 ghost use Rattle.txc_table_lines.specs.Lines.{line_ids, share_at};
 
-use crate::guards::take_line;
+use crate::guards::{TRIES, take_line};
 use crate::lines::Lines;
 use crate::one_operation::AtOnce;
 use crate::seat_shares::SeatShares;
-use crate::two_operations::{TRIES, take_both, take_item};
+use crate::two_operations::{take_both, take_item};
 use std::alloc::AllocError;
 use std::sync::Wait;
 use txc_base::{Act, Op, Source, Tag};

@@ -25,9 +25,9 @@ use txc_table_line::LineGuard;
 use txc_txn::{Checked, Ran, Receipt, run_pending};
 use txc_txn_check::MAX_DECLARED;
 
-/// How often a thread that takes several locks tries for one that is taken before it queues for it: to sleep there
-/// keeps the locks that it has from all others.
-const TRIES: u32 = 12;
+/// How often a thread that takes several locks tries for one that is taken before it queues for it. If it slept, it
+/// would keep the locks that it has from all others.
+pub(crate) const TRIES: u32 = 42;
 
 /// The lines that a transaction declares, which are locked until this is released or dropped. In a contract it is their
 /// numbers and their channels, and what the seat has of all lines.

@@ -13,7 +13,7 @@ ghost use Rattle.txc_table_lines.specs.Guards.{IsFound, IsReady};
 ghost use Rattle.txc_table_lines.specs.Lines.{line_ids, share_at};
 ghost use Rattle.txc_table_lines.specs.TwoOperations.{IsCommittedMove, IsNoMove, MustRetryMove};
 
-use crate::guards::take_line;
+use crate::guards::{TRIES, take_line};
 use crate::lines::Lines;
 use crate::one_operation::{AtOnce, without_act};
 use crate::seat_shares::SeatShares;
@@ -23,9 +23,6 @@ use txc_base::{Act, Item, Op, Reply, Source, Stop, Tag};
 use txc_chan::{Answer, Log};
 use txc_table_line::LineGuard;
 use txc_txn::{Deed, Receipt, tag_after};
-
-/// How often a thread tries for each of the two locks before it queues for it, as for the locks of any transaction.
-pub(crate) const TRIES: u32 = 12;
 
 /// A read, and a write of the body that was read to another channel.
 #[derive(Clone, Copy)]

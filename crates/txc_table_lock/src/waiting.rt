@@ -8,21 +8,29 @@ use crate::steps::is_free;
 use crate::words::{AWAITED, CLAIMED, FREE, STATE, TAKEN};
 use atomic_table::Seat;
 use std::hint::spin_loop;
-use std::sync::Wait;
+use std::sync::{MutexGuard, Wait};
+use std::thread::yield_now;
 
 /// The maximum number of pauses between two tries.
 const MAX_PAUSES: u32 = 64;
 
-/// How often a thread reads the word of a taken lock before it sleeps.
+/// How many tries have pauses before them. Before each later one, the thread lets other threads run.
+const PAUSED_TRIES: u32 = 12;
+
+/// How often a thread that waits in its turn reads the word of a taken lock in a loop.
 const LOOKS: u32 = 100;
+
+/// How often a thread lets other threads run and looks again, before it sleeps.
+const YIELDS: u32 = 30;
 
 /// How often a thread sleeps before it claims the lock.
 const MAX_SLEEPS: u32 = 2;
 
 impl<X: Drop, G, F: LockInvariant<X, G>> Lock<X, G, F> {
-    /// Takes the lock and returns its value. If the lock is taken, the thread looks again `tries` times, with pauses
-    /// that get longer. Then it blocks: it waits for its turn in the lock's queue, and only the first thread of the
-    /// queue waits for the lock. A thread that already has the lock blocks for ever.
+    /// Takes the lock and returns its value. If the lock is taken, the thread looks again `tries` times: 12 times after
+    /// pauses that get longer, and then after it has let other threads run. Then it blocks: it waits for its turn in
+    /// the lock's queue, and only the first thread of the queue waits for the lock. A thread that already has the lock
+    /// blocks for ever.
     pub fn lock<R: Wait>(&self, rt: &R, tries: u32) -> LockToken<X, G>
         ensures of { result.seat.table_id ≡ self.now.id }
         ensures has { HasValue (F.holds self.now.label) result.seat.me }
@@ -68,22 +76,38 @@ impl<X: Drop, G, F: LockInvariant<X, G>> Lock<X, G, F> {
         if let Some(token) = self.try_again(tries) {
             return token;
         }
-        let turn = self.queue.lock(rt);
+        let turn = self.wait_for_turn(rt);
         let token = self.wait_in_turn(rt);
         drop(turn);
         token
     }
 
-    // Takes the lock if it is free at one of `tries` looks. Before each look there are pauses, which get longer.
-    // Returns `None` if each look found the lock taken.
+    // Waits until this thread is the first one of the queue. It is until the result is dropped.
+    fn wait_for_turn<R: Wait>(&self, rt: &R) -> MutexGuard<'_, ()> {
+        for _ in 0..YIELDS {
+            if let Some(turn) = self.queue.try_lock() {
+                return turn;
+            }
+            yield_now();
+        }
+        self.queue.lock(rt)
+    }
+
+    // Takes the lock if it is free at one of `tries` looks. Before each of the first ones there are pauses, which get
+    // longer. Returns `None` if each look found the lock taken.
     fn try_again(&self, tries: u32) -> Option<LockToken<X, G>>
         ensures of { IfSome result (λ token. token.seat.table_id ≡ self.now.id) }
         ensures has { IfSome result (λ token. HasValue (F.holds self.now.label) token.seat.me) }
     {
         let mut pauses = 1u32;
-        for _ in 0..tries {
-            for _ in 0..pauses {
-                spin_loop();
+        for look in 0..tries {
+            if look < PAUSED_TRIES {
+                for _ in 0..pauses {
+                    spin_loop();
+                }
+                pauses = pauses.saturating_mul(2).min(MAX_PAUSES);
+            } else {
+                yield_now();
             }
             // A try takes the word's cache line from the thread that has the lock. A look does not.
             if self.table.shared.peek(STATE) == FREE {
@@ -91,7 +115,6 @@ impl<X: Drop, G, F: LockInvariant<X, G>> Lock<X, G, F> {
                     return Some(token);
                 }
             }
-            pauses = pauses.saturating_mul(2).min(MAX_PAUSES);
         }
         None
     }
@@ -117,14 +140,18 @@ impl<X: Drop, G, F: LockInvariant<X, G>> Lock<X, G, F> {
         unreachable!()
     }
 
-    // Reads the word until it differs from `TAKEN`, and returns it. Returns `TAKEN` after `LOOKS` looks.
+    // Reads the word until it differs from `TAKEN`, and returns it. Returns `TAKEN` if it still is after all looks.
     fn look(&self) -> u64 {
-        for _ in 0..LOOKS {
+        for look in 0..LOOKS + YIELDS {
             let seen = self.table.shared.peek(STATE);
             if seen != TAKEN {
                 return seen;
             }
-            spin_loop();
+            if look < LOOKS {
+                spin_loop();
+            } else {
+                yield_now();
+            }
         }
         TAKEN
     }
