@@ -3,7 +3,7 @@
    What each part stands for, as FILE: FUNCTIONS
      word                  crates/txc_table_lock/src/steps.rt: is_free
      compare_exchange      crates/txc_table_lock/src/steps.rt: try_take, leave, mark
-     lock                  crates/txc_table_lock/src/waiting.rt: lock, wait, try_again
+     lock                  crates/txc_table_lock/src/waiting.rt: lock, wait, try_again, wait_for_turn
      wait_in_turn          crates/txc_table_lock/src/waiting.rt: wait_in_turn, look, sleep
      unlock                crates/txc_table_lock/src/waiting.rt: unlock, wake
      .. word[c] = Left     crates/txc_table_lock/src/steps.rt: hand_over

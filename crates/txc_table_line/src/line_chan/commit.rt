@@ -16,6 +16,7 @@ impl<K: Log> LineChan<K> {
     /// The channel gets the tag's stamp, which must be later than its own, and one more mark. Returns the act, or
     /// `None` if there is none. Fails only if an allocation fails. If there is no act, nothing is changed. It blocks
     /// only if the handle permits it, on a broadcast channel.
+    #[inline(always)]
     pub fn commit<R: Append>(
         &mut self,
         rt: &R,

@@ -17,6 +17,7 @@ impl<K: Log> SeatShare<K> {
     /// than the channel's, and counts it. The seat has then seen the log. Returns the act, or `None` if there is none.
     /// Fails only if an allocation fails. If there is no act, nothing is changed. It blocks only if the handle permits
     /// it, on a broadcast channel.
+    #[inline(always)]
     pub fn commit<R: Append>(
         &mut self,
         rt: &R,
