@@ -1,8 +1,9 @@
 #!/usr/bin/env python3
-"""instructions.py [--jobs JOB..] [--functions] [--program FILE]: counts the instructions of a transaction in the jobs
-of bench/jobs.rattle, by a service and by a run, with callgrind. It compiles the bench without proofs. The counts do not
-depend on what else the machine does. Without --jobs it counts all jobs. With --functions it prints for each job the 30
-functions that take most. --program keeps the compiled bench as FILE, or takes FILE if it is there.
+"""instructions.py [--jobs JOB..] [--functions] [--program FILE] [--proved]: counts the instructions of a transaction in
+the jobs of bench/jobs.rattle, by a service and by a run, with callgrind. It compiles the bench without proofs, or with
+--proved proves it. The counts do not depend on what else the machine does. Without --jobs it counts all jobs. With
+--functions it prints for each job the 30 functions that take most. --program keeps the bench as FILE, or takes FILE if
+it is there.
 instructions.py --check: compares the jobs of one thread with bench/instructions.txt, without the C library. The last
 line is 'N passed, M failed'.
 instructions.py --store: writes bench/instructions.txt anew.
@@ -182,6 +183,7 @@ def words():
     parser.add_argument("--jobs", nargs="+", choices=WORKERS, metavar="JOB", help=", ".join(WORKERS))
     parser.add_argument("--functions", action="store_true")
     parser.add_argument("--program", metavar="FILE", type=Path)
+    parser.add_argument("--proved", action="store_true")
     either = parser.add_mutually_exclusive_group()
     either.add_argument("--check", action="store_true")
     either.add_argument("--store", action="store_true")
@@ -201,7 +203,8 @@ def main():
         with tempfile.TemporaryDirectory(prefix="instructions-") as place:
             program = asked.program or Path(place, "bench_jobs")
             if not program.exists():
-                compiled.compile_bench("jobs", program, "yalwythen", "anyhow")
+                make = compiled.prove_bench if asked.proved else compiled.compile_bench
+                make("jobs", program, "yalwythen", "anyhow")
             return work(asked, program)
     except (compiled.unproved.Fault, subprocess.TimeoutExpired, OSError) as fault:
         print(f"instructions.py: {fault}", file=sys.stderr)
