@@ -4,9 +4,9 @@ the jobs of bench/jobs.rattle, by a service and by a run, with callgrind. It com
 --proved proves it. The counts do not depend on what else the machine does. Without --jobs it counts all jobs. With
 --functions it prints for each job the 30 functions that take most. --program keeps the bench as FILE, or takes FILE if
 it is there.
-instructions.py --check: compares the jobs of one thread with bench/instructions.txt, without the C library. The last
-line is 'N passed, M failed'.
-instructions.py --store: writes bench/instructions.txt anew.
+instructions.py --check: proves the bench and compares the jobs of one thread with bench/instructions.txt, without the C
+library. The last line is 'N passed, M failed'.
+instructions.py --store: writes bench/instructions.txt anew, also from the proved bench.
 
 A count is the difference of two runs, so that what happens once is left out. Callgrind runs one thread at a time, and
 the order of threads can change a count: a job of several threads is counted three times. The table has the median, and
@@ -47,8 +47,9 @@ COLUMN = {crate: column for column, crates in CRATES.items() for crate in crates
 REST = "rest"
 STORED = Path(__file__).with_suffix(".txt")
 PERCENT = 2
-HEAD = f"""# Instructions of a transaction, and how many of them write memory, in the jobs of one thread. Those of the C
-# library are left out. `./test` compares them within {PERCENT} %. Written by bench/instructions.py --store.
+HEAD = f"""# Instructions of a transaction, and how many of them write memory, in the jobs of one thread of the proved
+# bench. Those of the C library are left out. `./test` compares them within {PERCENT} %. Written by
+# bench/instructions.py --store.
 """
 
 # What a function takes, and how much of that writes memory.
@@ -203,7 +204,8 @@ def main():
         with tempfile.TemporaryDirectory(prefix="instructions-") as place:
             program = asked.program or Path(place, "bench_jobs")
             if not program.exists():
-                make = compiled.prove_bench if asked.proved else compiled.compile_bench
+                is_proved = asked.proved or asked.check or asked.store
+                make = compiled.prove_bench if is_proved else compiled.compile_bench
                 make("jobs", program, "yalwythen", "anyhow")
             return work(asked, program)
     except (compiled.unproved.Fault, subprocess.TimeoutExpired, OSError) as fault:
