@@ -1,6 +1,6 @@
 #!/usr/bin/env python3
 """instructions.py [--jobs JOB..] [--functions] [--program FILE] [--proved]: counts the instructions of a transaction in
-the jobs of bench/jobs.rattle, by a service and by a run, with callgrind. It compiles the bench without proofs, or with
+the jobs of bench/jobs.rattle, by `serve` and by `run`, with callgrind. It compiles the bench without proofs, or with
 --proved proves it. The counts do not depend on what else the machine does. Without --jobs it counts all jobs. With
 --functions it prints for each job the 30 functions that take most. --program keeps the bench as FILE, or takes FILE if
 it is there.

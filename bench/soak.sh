@@ -6,9 +6,8 @@
 set -eu
 root=$(cd "$(dirname "${BASH_SOURCE[0]}")/.." && pwd)
 goal=("${1:-10000000}" ${2:+"$2"})
-place=$("$root/bench/place.sh" soak yalwythen)
+place=$("$root/bench/place.sh" soak yalwythen anyhow)
 trap 'rm -rf "$place"' EXIT
-sed -i 's/^bench_soak:.*/& anyhow/' "$place/crates.txt"
 cd "$place/crates/bench_soak"
 rt run -- 10 >"$place/log" 2>&1 || { grep -v "^statements\|^library\|: proved" "$place/log" | tail -n 20; exit 1; }
 load() {

@@ -253,7 +253,8 @@ def is_own(path, why):
 
 
 def is_rejection(rt, kind):
-    """Whether `must_fail` of the toolchain says that a mutant is rejected: in one kit by a flag, in another by a kind."""
+    """Whether `must_fail` of the toolchain says that a mutant is rejected: in one kit by a flag, in another by a kind.
+    """
     return kind if isinstance(kind, bool) else kind in (rt.REFUSED, rt.AT_LIMIT)
 
 
