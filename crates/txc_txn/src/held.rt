@@ -67,6 +67,7 @@ pub fn settle_declared<H: Settle>(hold: &mut H, stamp: u64, declared: &[u16])
     requires held { (n : ℕ) → Contains declared.now n → H.IsHeld hold.old n }
     ensures held { (n : ℕ) → H.IsHeld hold.old n → H.IsHeld hold.new n }
     ensures settled { H.chans hold.new ≡ settle_all (H.chans hold.old) stamp declared.now }
+    ensures fixed { H.fixed hold.new ≡ H.fixed hold.old }
 {
     for chan in declared {
         hold.settle(*chan, stamp);
@@ -91,6 +92,7 @@ pub fn run_held<H: Settle, R: Append>(
     ensures ran { let before = H.chans hold.old in
         IfOk result (λ ran. RanSettled (kept_tag before tag checked.now.declared) checked.now.declared
         (transaction before tag checked.now.declared checked.now.steps) ran before (H.chans hold.new)) }
+    ensures fixed { H.fixed hold.new ≡ H.fixed hold.old }
 {
     run_held_reusing(rt, Receipt::blank(alloc), hold, tag, checked)
 }
@@ -114,6 +116,7 @@ pub fn run_held_reusing<H: Settle, R: Append>(
     ensures ran { let before = H.chans hold.old in
         IfOk result (λ ran. RanSettled (kept_tag before tag checked.now.declared) checked.now.declared
         (transaction before tag checked.now.declared checked.now.steps) ran before (H.chans hold.new)) }
+    ensures fixed { H.fixed hold.new ≡ H.fixed hold.old }
 {
     match run_pending(rt, recycled, hold, tag, checked)? {
         Ran::Kept(receipt) => {

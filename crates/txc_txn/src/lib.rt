@@ -26,7 +26,7 @@ mod trace;
 mod undo;
 
 pub use deed::Deed;
-pub use held::{run_held, run_held_reusing, run_pending};
+pub use held::{run_held, run_held_reusing, run_pending, settle_declared};
 pub use hold::Hold;
 pub use law::{one_operation_is_itself, two_operations_are_in_turn};
 pub use next_tag::tag_after;
@@ -37,7 +37,9 @@ pub use ran::Ran;
 pub use receipt::Receipt;
 pub use receipt_buffers::ReceiptBuffers;
 pub use report::Report;
+pub use run::Run;
 pub use settle::Settle;
 pub use single::run_one;
 pub use trace::{StepOutcome, Trace};
 pub use txc_txn_check::{Checked, Step, TxnFault};
+pub use undo::{Marks, mark_all, undo_all};

@@ -109,6 +109,7 @@ impl OpenTransaction {
         ensures grows { AllGrow self.old.tag (H.chans hold.old) (H.chans hold.new) }
         ensures keeps { KeepsTrace self.old.trace self.new.trace }
         ensures tag { self.new.tag ≡ self.old.tag }
+        ensures fixed { H.fixed hold.new ≡ H.fixed hold.old }
     {
         self.touch(hold, op.chan())?;
         let run = Run {
@@ -149,6 +150,7 @@ impl OpenTransaction {
         ensures deeds { self.new.trace.deeds.items ≡ take point.now.deeds self.old.trace.deeds.items }
         ensures rest { (self.new.tag ≡ self.old.tag) × (self.new.touched ≡ self.old.touched)
             × (self.new.marks ≡ self.old.marks) }
+        ensures fixed { H.fixed hold.new ≡ H.fixed hold.old }
     {
         let touched = self.touched.as_slice();
         let (saved, marks) = (point.marks.as_slice(), self.marks.as_slice());
@@ -166,6 +168,7 @@ impl OpenTransaction {
         ensures held { (n : ℕ) → H.IsHeld hold.old n → H.IsHeld hold.new n }
         ensures receipt { (m : Map) → result ≡ receipt_of self.tag (state_of m self.trace) }
         ensures settled { H.chans hold.new ≡ settle_all (H.chans hold.old) self.tag.stamp self.touched.items }
+        ensures fixed { H.fixed hold.new ≡ H.fixed hold.old }
     {
         settle_declared(hold, self.tag.stamp, self.touched.as_slice());
         self.trace.receipt(self.tag)
@@ -179,6 +182,7 @@ impl OpenTransaction {
         ensures kinds { kinds_of (H.chans hold.new) ≡ kinds_of (H.chans hold.old) }
         ensures back { (before : Map) → IsMarkedSince [] self before (H.chans hold.old)
             → H.chans hold.new ≡ before }
+        ensures fixed { H.fixed hold.new ≡ H.fixed hold.old }
     {
         undo_all(hold, self.touched.as_slice(), self.marks.as_slice());
     }

@@ -13,5 +13,6 @@ pub trait Settle: Hold {
         requires held { Self.IsHeld self.old chan }
         ensures held { (n : ℕ) → Self.IsHeld self.old n → Self.IsHeld self.new n }
         ensures settled { Self.chans self.new ≡ put_at (Self.chans self.old)
-            chan (settled stamp (Self.chans self.old chan)) };
+            chan (settled stamp (Self.chans self.old chan)) }
+        ensures fixed { Self.fixed self.new ≡ Self.fixed self.old };
 }

@@ -37,6 +37,7 @@ pub fn run_one<H: Settle, R: Append>(
     ensures stopped { IfErr result (λ stop. stop ≢ Stop.NoMemory
         → transaction (H.chans hold.old) tag (chan_of op.now ∷ []) (Do op.now ∷ []) ≡ Aborted stop) }
     ensures unchanged { OnErr result (H.chans hold.new ≡ H.chans hold.old) }
+    ensures fixed { H.fixed hold.new ≡ H.fixed hold.old }
 {
     let chan = op.chan();
     let declared = [chan];

@@ -11,6 +11,7 @@ loop-i-init g c = record {
   kinds = refl;
   back = λ m k. back_first c.args.self.now.tag m (g.H.Hold.chans c.args.hold.now) c.as_slice-touched.result.now
       (marks_since c.as_slice-saved.result.now c.as_slice-marks.result.now) k;
+  fixed = refl;
 }
 
 pub loop-i-preserved : goal.loop-i-preserved
@@ -33,6 +34,7 @@ loop-i-preserved g c =
           touched (marks_since saved marks) c.loop-i.i c.if-i-saved.mark (g.H.Hold.chans c.args.hold.now)
           c.loop-i-test.true k is c.undo_to.ensures.others (c.undo_to.ensures.back c.args.self.now.tag)
           (c.loop-i.invariant.back m k);
+      fixed = c.undo_to.ensures.fixed ∙ c.loop-i.invariant.fixed;
     }
 
 pub returns-clause-back : goal.returns-clause-back

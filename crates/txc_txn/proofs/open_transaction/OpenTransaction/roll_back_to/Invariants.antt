@@ -11,4 +11,5 @@ invariant-loop-i g l = record {
   kinds : kinds_of (g.H.Hold.chans l.hold) ≡ kinds_of (g.H.Hold.chans l.initial.hold);
   back : (m : Map) → IsMarked l.fn.self.tag l.touched (marks_since l.saved l.marks) m (g.H.Hold.chans l.initial.hold)
       → (n : ℕ) → BackOr l.fn.self.tag (drop l.i l.touched) m (g.H.Hold.chans l.hold) n;
+  fixed : g.H.Hold.fixed l.hold ≡ g.H.Hold.fixed l.initial.hold;
 }
