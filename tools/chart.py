@@ -8,7 +8,7 @@ from drawing import COLOURS, DARK, GREY, LETTER, opening, shape, text
 ROOT = Path(__file__).resolve().parent.parent
 PAGE = ROOT / "docs/SPEED.md"
 # What the columns of the table after the job and its description are called in the chart.
-SERIES = ("run", "serve", "mutex and deque", "stm, -N1", "stm, -N4")
+SERIES = ("run", "serve", "mutex, notified at each write", "stm, -N1", "stm, -N4")
 ROW = re.compile(r"^\| ([a-z -]+) \| [^|]+" + r"\| (\d+) \(\d+\) " * len(SERIES) + r"\|$", re.MULTILINE)
 # Nanoseconds at the lines of the scale, which is logarithmic.
 SCALE = (20, 50, 100, 200, 500, 1000, 2000, 5000)

@@ -1,8 +1,9 @@
 /* Preloaded into a program, counts its growths, that is its calls of malloc, calloc and realloc, refuses some of
-   them, and tells on standard error when the program ends: `growths N refused M in call K`.
+   them or the start of a thread, and tells on standard error when the program ends: `growths N refused M in call K`.
 
    REFUSE=N       the Nth growth is refused, alone
    REFUSE_FROM=N  the Nth growth is refused, and each one after it
+   REFUSE_THREAD=N  the Nth start of a thread fails
    CALLS=1        only growths within calls count. A call is what the program does between two writes to standard
                   output, the first of which is a line that begins with `call `. Calls are numbered from 1. Once
                   the second one is the line `no memory`, nothing is refused any more: the program makes the same
@@ -10,6 +11,7 @@
 #define _GNU_SOURCE
 #include <dlfcn.h>
 #include <errno.h>
+#include <pthread.h>
 #include <stdio.h>
 #include <stdlib.h>
 #include <string.h>
@@ -17,6 +19,7 @@
 
 static unsigned long growths, refused, calls, refused_in;
 static unsigned long first = -1, last = -1;
+static unsigned long threads, no_thread;
 static int by_calls, in_call, is_over, is_printed;
 
 static unsigned long number(const char *name) {
@@ -29,6 +32,7 @@ __attribute__((constructor)) static void begin(void) {
   if (alone) first = last = alone;
   if (from) first = from;
   by_calls = number("CALLS") != 0;
+  no_thread = number("REFUSE_THREAD");
 }
 
 /* Counts a growth, and says whether it is refused. */
@@ -59,6 +63,13 @@ void *realloc(void *block, size_t size) {
   static void *(*next)(void *, size_t);
   if (!next) next = dlsym(RTLD_NEXT, "realloc");
   return is_refused() ? NULL : next(block, size);
+}
+
+int pthread_create(pthread_t *thread, const pthread_attr_t *attributes, void *(*start)(void *), void *argument) {
+  static int (*next)(pthread_t *, const pthread_attr_t *, void *(*)(void *), void *);
+  if (!next) next = dlsym(RTLD_NEXT, "pthread_create");
+  if (__atomic_add_fetch(&threads, 1, __ATOMIC_SEQ_CST) == no_thread) return EAGAIN;
+  return next(thread, attributes, start, argument);
 }
 
 static int begins(const char *text, size_t length, const char *line) {

@@ -8,6 +8,8 @@ A test of a crate in TESTS tells of each call when it begins and whether it was 
 was refused has to tell of want of memory, and no other; the test itself compares what was lent with what it was
 before, makes the call again, and compares what it answers.
 
+A run, a service and the program end with `no thread` if any one of their threads cannot be started.
+
 Beside that: the calls of a test in WHOLLY_REFUSED are answered as ever where each growth is refused to them, since
 what they answer is found before any memory is taken; a write to a broadcast channel of 64 readers makes at most six
 growths, since its items stand once and not in a list for each reader; six operations without an act are answered with
@@ -46,6 +48,9 @@ TESTS = {
                                 "without_log::two_seats_attempt_and_leave", "session::one_worker", "workers::one_run",
                                 "service::two_servers"],
 }
+
+# Tests that run three threads and print whether all were started, of the crate `yalwythen_work_tests`.
+WITHOUT_A_THREAD = ["a_run_ends_without_a_thread", "a_service_ends_without_a_thread"]
 
 # Tests whose calls are answered with each growth refused, by their crates.
 WHOLLY_REFUSED = {"txc_refusal_tests": ["audit::out_of_order", "plain::retry_at_the_first_operation"]}
@@ -204,6 +209,17 @@ def rounds_in_the_same_memory(preloaded, program):
     return counts, f"{many.growths} growths"
 
 
+def without_a_thread(preloaded, words, threads, wanted, script=None):
+    """Runs a program with each of its threads refused in turn, and with none refused."""
+    counts = Counts(f"{Path(words[0]).name} {words[1]} without a thread")
+    for number in range(1, threads + 1):
+        run = Run(preloaded, words, script, REFUSE_THREAD=number)
+        counts.count((run.printed, run.status) == wanted, f"thread {number}: status {run.status}, {run.printed}")
+    whole = Run(preloaded, words, script, REFUSE_THREAD=threads + 1)
+    counts.count(whole.printed != wanted[0], f"no thread was refused: status {whole.status}, {whole.printed}")
+    return counts, f"{threads} threads"
+
+
 def program_of(crate, place):
     """The program of the tests of a crate in tests/, without the address sanitizer, which would take the place of what
     is preloaded."""
@@ -223,8 +239,9 @@ def build(place):
     built = subprocess.run([ROOT / "chanrun"], stdin=subprocess.DEVNULL, stdout=subprocess.DEVNULL, check=False)
     if built.returncode != 2:
         sys.exit("there is no program to run\n0 passed, 1 failed")
-    with concurrent.futures.ThreadPoolExecutor(len(TESTS)) as pool:
-        return preloaded, dict(zip(TESTS, pool.map(lambda crate: program_of(crate, place), TESTS)))
+    crates = [*TESTS, "yalwythen_work_tests"]
+    with concurrent.futures.ThreadPoolExecutor(len(crates)) as pool:
+        return preloaded, dict(zip(crates, pool.map(lambda crate: program_of(crate, place), crates)))
 
 
 def main():
@@ -242,6 +259,10 @@ def main():
         parts += [pool.submit(refuse_program, preloaded, word, name)
                   for word in ("check", "replay") for name in SCRIPTS]
         parts.append(pool.submit(refuse_program, preloaded, "run", SCRIPTS[0]))
+        chanrun = [ROOT / "crates/chanrun/out/chanrun", "run"]
+        parts.append(pool.submit(without_a_thread, preloaded, chanrun, 3, NO_THREAD, ROOT / "examples/pipeline.json"))
+        parts += [pool.submit(without_a_thread, preloaded, [programs["yalwythen_work_tests"], f"threads::{name}"], 3,
+                              (b"no thread\n", 0)) for name in WITHOUT_A_THREAD]
         found = [part.result() for part in parts]
     for counts, text in found:
         counts.show(text)

@@ -49,6 +49,7 @@ ran table decls made plans outcome built closed =
         accounts = subst (λ n. AreAccounts decls closed.helds n report.accounts) many_kinds
             (subst (λ (ds : List Decl). AreAccounts ds closed.helds (length table.kinds) report.accounts)
             built.its_lines closed.accounts);
+        back = back;
         stuck = closed.stuck;
       };
     }

@@ -7,6 +7,7 @@ use Rattle.txc_chan.specs.declared.decl.Decl.{Decl}
 use Rattle.txc_table.specs.Finished.{IsOneHistory}
 use Rattle.txc_table.specs.Seat.{DepartedSeatView, commits_of}
 use Rattle.txc_table.proofs.Left.{nobody}
+use Rattle.txc_table.proofs.OneHistory.{even_length}
 use Rattle.txc_table_report.specs.Finished.{AreTheirs}
 use Rattle.txc_cmd_report.specs.declared.seat_end.SeatEnd.TheVariants.{Finished}
 use Rattle.txc_txn.specs.declared.report.Report.{Report}
@@ -95,16 +96,17 @@ pub script_history : (decls : List Decl) (plans : List (List CheckedView)) (left
     → HaveServed decls plans left ends → AreTheirs (commits_of left) report.receipts
     → IsOneHistory decls (commits_of left) report → (order : List Event) × IsOneOrder decls plans report order
 script_history decls plans left ends report many here back theirs history = (
-  history.order,
+  history.serial.order,
   record {
     is_order = record {
-      in_turn = history.one.is_order.in_turn;
-      each_once = subst (λ (es : List Event). IsPermutation es history.order)
-          (sym (events_same 0 plans history.plans report.receipts many history.many each))
-          history.one.is_order.each_once;
-      sorted = history.one.is_order.sorted;
+      in_turn = history.serial.one.is_order.in_turn;
+      each_once = subst (λ (es : List Event). IsPermutation es history.serial.order)
+          (sym (events_same 0 plans history.plans report.receipts many
+          (even_length history.plans report.receipts history.serial.even) each))
+          history.serial.one.is_order.each_once;
+      sorted = history.serial.one.is_order.sorted;
     };
-    is_run = history.one.is_run;
+    is_run = history.serial.one.is_run;
   },
 )
   where

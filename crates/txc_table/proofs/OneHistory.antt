@@ -181,7 +181,11 @@ pub one_history_of : (decls : List Decl) (channels : List LineChanView) (left : 
     → AreRanBy left plans → ArePlacedEvents decls (logs_in channels) (marks_in channels) (events_from 0 plans receipts)
     → IsOneHistory decls left (record { accounts = accounts; receipts = receipts })
 one_history_of decls channels left accounts receipts plans made are clean all count same theirs even ran placed =
-    record { plans = plans; many = even_length plans receipts even; ran = ran; order = found.0; one = found.1 }
+    record {
+      plans = plans;
+      ran = ran;
+      serial = record { even = even; order = found.0; one = found.1 };
+    }
   where
     report : Report
     report = record { accounts = accounts; receipts = receipts }

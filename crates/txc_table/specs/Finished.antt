@@ -5,6 +5,7 @@ use Rattle.txc_chan.specs.declared.decl.Decl.{Decl}
 use Rattle.txc_txn_check.specs.Limits.{CheckedView}
 use Rattle.txc_txn_history.specs.Events.{Event}
 use Rattle.txc_txn_history.specs.OneOrder.{IsOneOrder}
+use Rattle.txc_txn_history.specs.Seats.{AreEven}
 use Rattle.txc_table_report.specs.Finished.{IsReport}
 use Rattle.txc_table_report.specs.Gathered.{IsGathered, logs_of}
 use Rattle.txc_table_report.specs.Sorted.{AreTakenOnce, IsSummed}
@@ -26,14 +27,19 @@ pub record IsRanBy (left : List SeatCommits) (number : ℕ) (plans : List Checke
 abbrev pub AreRanBy : List SeatCommits → List (List CheckedView) → Type 0
 AreRanBy left seats = (n : ℕ) (plans : List CheckedView) → slice_get seats n ≡ Some plans → IsRanBy left n plans
 
--- the report is one history of the transactions that the seats ran on these channels: in an order by stamp, seat and
--- serial, one thread would have got each receipt exactly, and left the channels as the accounts show them
-pub record IsOneHistory (decls : List Decl) (left : List SeatCommits) (report : Report) : Type 0 where
-  pub plans : List (List CheckedView)
-  pub many : length plans ≡ length report.receipts
-  pub ran : AreRanBy left plans
+-- the report is one serial history of these transactions of each seat on these channels: each seat has a receipt for each
+-- of its transactions and no other receipt, and in this order, by stamp, seat and serial, one thread would have got each
+-- receipt exactly, and left the channels as the accounts show them
+pub record IsSerialHistory (decls : List Decl) (plans : List (List CheckedView)) (report : Report) : Type 0 where
+  pub even : AreEven plans report.receipts
   pub order : List Event
   pub one : IsOneOrder decls plans report order
+
+-- the report is one serial history of the transactions that the seats ran on these channels
+pub record IsOneHistory (decls : List Decl) (left : List SeatCommits) (report : Report) : Type 0 where
+  pub plans : List (List CheckedView)
+  pub ran : AreRanBy left plans
+  pub serial : IsSerialHistory decls plans report
 
 -- the report of this table, which these seats have left: each entry is in one receipt, each item of a queue was taken
 -- by one seat or remains, and the report is one history of one thread
