@@ -7,19 +7,18 @@ use Rattle.txc_chan.specs.declared.summary.Summary.{Summary}
 use Rattle.txc_chan.specs.declared.decl.Decl.{Decl}
 use Rattle.txc_txn_check.specs.Limits.{CheckedView}
 use Rattle.txc_table_report.specs.Sorted.{AreTakenOnce}
-use Rattle.txc_txn_history.specs.Events.{Event}
-use Rattle.txc_txn_history.specs.OneOrder.{IsOneOrder}
 use Rattle.txc_table_seat.specs.Seated.{SeatCommits}
 use Rattle.txc_txn.specs.declared.report.Report.{Report}
 use Rattle.txc_table.specs.Built.{IsBuilt}
-use Rattle.txc_table.specs.Finished.{IsFinished, IsFinishedInSummary, IsOneHistory}
+use Rattle.txc_table.specs.Finished.{IsFinished, IsFinishedInSummary, IsOneHistory, IsSerialHistory}
 use Rattle.txc_table.specs.Seat.{SeatView, DepartedSeatView, commits_of}
 use Rattle.txc_table.specs.Refused.{AreAllSeats}
 use Rattle.txc_table.specs.Table.{TableLines, TableView}
 use Rattle.txc_table.proofs.Left.{are_of, none_missing, reports, commits_at}
+use Rattle.txc_table.proofs.OneHistory.{even_length}
 use Rattle.txc_base_threads.proofs.Added.{some_of}
 use Rattle.yalwythen_work.specs.Plans.{PlansView}
-use Rattle.yalwythen_work.specs.Ran.{IsRun, IsService}
+use Rattle.yalwythen_work.specs.Ran.{IsRun, IsService, all_noted}
 
 -- as many seats as a table has, each at its number, are all back
 pub all_back : (lines : TableLines) (seats : ℕ) (left : List DepartedSeatView) → length left ≡ seats
@@ -65,16 +64,16 @@ in_ledgers : (decls : List Decl) (seats : ℕ) (left : List SeatCommits) (lists 
     → ((k : ℕ) (d : SeatCommits) → k < seats → (slice_index_or left k d).number ≡ k)
     → ((k : ℕ) (d : SeatCommits) (b : PlansView) → k < seats
     → (slice_index_or lists k b).kept ≡ (slice_index_or left k d).plans)
-    → (order : List Event) × IsOneOrder decls (map (λ (plans : PlansView). plans.kept) lists) report order
+    → IsSerialHistory decls (all_noted lists) report
 in_ledgers decls seats left lists report history many here all each noted =
-    subst (λ (ps : List (List CheckedView)). (order : List Event) × IsOneOrder decls ps report order) (sym same)
-    (history.order, history.one)
+    subst (λ (ps : List (List CheckedView)). IsSerialHistory decls ps report) (sym same) history.serial
   where
-    long : length (map (λ (plans : PlansView). plans.kept) lists) ≡ length history.plans
-    long = length-map lists (λ (plans : PlansView). plans.kept) ∙ all ∙ sym many ∙ sym history.many
+    long : length (all_noted lists) ≡ length history.plans
+    long = length-map lists (λ (plans : PlansView). plans.kept) ∙ all ∙ sym many
+        ∙ sym (even_length history.plans report.receipts history.serial.even)
 
-    at : (k : ℕ) → k < length (map (λ (plans : PlansView). plans.kept) lists)
-        → slice_index_or (map (λ (plans : PlansView). plans.kept) lists) k [] ≡ slice_index_or history.plans k []
+    at : (k : ℕ) → k < length (all_noted lists)
+        → slice_index_or (all_noted lists) k [] ≡ slice_index_or history.plans k []
     at k below =
         let in_all : k < length lists = subst (λ n. k < n) (length-map lists (λ (plans : PlansView). plans.kept))
         below in
@@ -92,8 +91,8 @@ in_ledgers decls seats left lists report history many here all each noted =
         get_or-map (λ (plans : PlansView). plans.kept) lists k d [] in_all
         ∙ noted k by.seat d within ∙ ap (λ (s : SeatCommits). s.plans) is ∙ by.theirs
 
-    same : map (λ (plans : PlansView). plans.kept) lists ≡ history.plans
-    same = ext_get_or [] (map (λ (plans : PlansView). plans.kept) lists) history.plans long at
+    same : all_noted lists ≡ history.plans
+    same = ext_get_or [] (all_noted lists) history.plans long at
 
 -- .. also if the seats have left a table
 pub serial : (decls : List Decl) (seats : ℕ) (left : List DepartedSeatView) (lists : List PlansView) (report : Report)
@@ -102,7 +101,7 @@ pub serial : (decls : List Decl) (seats : ℕ) (left : List DepartedSeatView) (l
     → ((k : ℕ) (l : DepartedSeatView) → k < seats → (slice_index_or left k l).commits.number ≡ k)
     → ((k : ℕ) (l : DepartedSeatView) (b : PlansView) → k < seats
     → (slice_index_or lists k b).kept ≡ (slice_index_or left k l).commits.plans)
-    → (order : List Event) × IsOneOrder decls (map (λ (plans : PlansView). plans.kept) lists) report order
+    → IsSerialHistory decls (all_noted lists) report
 serial decls seats left lists report history many here all each noted =
     in_ledgers decls seats (commits_of left) lists report history many
     (length-map left (λ (seat : DepartedSeatView). seat.commits) ∙ here) all

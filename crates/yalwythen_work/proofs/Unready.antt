@@ -16,7 +16,7 @@ use Rattle.txc_table.specs.Table.{TableView}
 pub unready : (table : TableView) (seat : SeatView) (plans : PlansView) (steps : List Step) (kinds : List Kind)
     (error : TransactError)
     (before : SessionView)
-    → session_of table seat.commits plans ≡ before → kinds ≡ table.kinds → IsCheckError kinds steps error
+    → session_of table seat plans ≡ before → kinds ≡ table.kinds → IsCheckError kinds steps error
     → HasFailedWith before steps error
 unready table seat plans steps kinds Unprepared before is same why = absurd why
 unready table seat plans steps kinds (Unfit fault) before is same why =

@@ -9,12 +9,13 @@ use Rattle.txc_txn_check.specs.Limits.{IsChecked, CheckedView}
 use Rattle.txc_txn_check.specs.Walk.{Faulty, walk}
 use Rattle.txc_txn_check.specs.declared.fault.TxnFault.TheVariants.{NoChannel}
 use Rattle.txc_txn_check.specs.declared.step.Step.{Step}
-use Rattle.yalwythen_work.specs.Session.{SessionView}
+use Rattle.yalwythen_work.specs.Session.{SessionView, logs_seen}
 use Rattle.yalwythen_work.specs.Plans.{noted}
 use Rattle.yalwythen_work.specs.declared.session.prepared.Prepared.{Prepared}
 use Rattle.yalwythen_work.specs.declared.transact_error.TransactError.{TransactError}
 use Rattle.yalwythen_work.specs.declared.transact_error.TransactError.TheVariants.{Unfit, Unprepared, Stalled, Stopped}
 use Rattle.txc_table_seat.specs.Seated.{next_tag}
+use Rattle.txc_table.specs.Seat.{SeesMore}
 use Rattle.txc_table.specs.Table.{decls_of}
 use Rattle.txc_table.specs.Outcome.{AreLawful, Tells}
 use Rattle.txc_table.specs.declared.tried.Tried.{Tried}
@@ -30,15 +31,17 @@ kept_after audited plans plan (Kept number) = noted audited plans plan
 kept_after audited plans plan (Retry cause) = plans
 
 -- a try of these steps, as one transaction on lawful channels, which declares the channels that they name: its result,
--- and the session afterwards
+-- and the session afterwards; the logs of the channels begin with what the seat had seen, which only grows
 pub record IsTried (before : SessionView) (steps : List Step) (tried : Tried) (after : SessionView) : Type 0 where
   pub plan : CheckedView
   pub its : plan.steps ≡ steps
   pub checked : IsChecked plan
   pub channels : Map
   pub lawful : AreLawful (decls_of before.table.lines) before.seat.receipts channels
+  pub since : SeesMore (logs_seen before) (λ n. (channels n).log)
   pub tells : Tells channels before.seat plan tried after.seat
   pub same : after.table ≡ before.table
+  pub sees : SeesMore (logs_seen before) (logs_seen after)
   pub kept : after.plans ≡ kept_after before.audited before.plans plan tried
   pub audited : after.audited ≡ before.audited
   pub prepared : after.prepared ≡ before.prepared
@@ -70,6 +73,7 @@ pub record IsPrepared (before : SessionView) (steps : List Step) (number : ℕ) 
   pub prepared : after.prepared ≡ before.prepared ++ plan ∷ []
   pub table : after.table ≡ before.table
   pub seat : after.seat ≡ before.seat
+  pub seen : after.seen ≡ before.seen
   pub audited : after.audited ≡ before.audited
   pub plans : after.plans ≡ before.plans
 

@@ -1,5 +1,5 @@
 -- The result of a run of workers.
-use Rattle.std.specs.Prelude.{◌≡◌, ℕ, ◌<◌, List, length, map, vec_len}
+use Rattle.std.specs.Prelude.{◌≡◌, ℕ, ◌<◌, List, length, map, slice_index_or, vec_len}
 use Rattle.txc_base.specs.declared.limits.TheConstants.{MAX_SEATS}
 use Rattle.txc_chan.specs.declared.summary.Summary.{Summary}
 use Rattle.txc_chan.specs.declared.decl.Decl.{Decl}
@@ -7,12 +7,11 @@ use Rattle.txc_table_report.specs.Finished.{IsReport}
 use Rattle.txc_table_report.specs.Gathered.{IsGathered, logs_of}
 use Rattle.txc_table_report.specs.Refusal.{reason, refusal}
 use Rattle.txc_table_report.specs.Sorted.{AreTakenOnce, IsSummed}
-use Rattle.txc_txn_history.specs.Events.{Event}
-use Rattle.txc_txn_history.specs.OneOrder.{IsOneOrder}
+use Rattle.txc_txn_check.specs.Limits.{CheckedView}
 use Rattle.txc_table_seat.specs.Seated.{SeatCommits}
 use Rattle.txc_txn.specs.declared.report.Report.{Report}
 use Rattle.txc_table_lines.specs.Accounted.{summary_in}
-use Rattle.txc_table.specs.Finished.{IsOneHistory}
+use Rattle.txc_table.specs.Finished.{IsOneHistory, IsSerialHistory}
 use Rattle.yalwythen_work.specs.declared.service_outcome.ServiceOutcome.{ServiceOutcome}
 use Rattle.yalwythen_work.specs.declared.pool.Results.{Results}
 use Rattle.yalwythen_work.specs.declared.run_outcome.RunOutcome.{RunOutcome}
@@ -32,11 +31,13 @@ pub record IsRun (decls : List Decl) (workers : ℕ) (report : Report) : Type 0 
   pub once : AreTakenOnce decls report
   pub history : IsOneHistory decls left report
 
--- the run is one serial history of the transactions that its workers noted: in the order of the stamps, one thread that
--- runs them on these channels gets each receipt whole and leaves the channels as the report shows them
+-- the transactions that each of these workers noted
+abbrev pub all_noted : List PlansView → List (List CheckedView)
+all_noted all = map (λ plans. plans.kept) all
+
+-- the run is one serial history of the transactions that its workers noted
 abbrev pub IsSerial : {W : Type 0} → List Decl → RunOutcome W → Type 0
-IsSerial decls done = (order : List Event)
-    × IsOneOrder decls (map (λ (plans : PlansView). plans.kept) done.plans.items) done.report order
+IsSerial decls done = IsSerialHistory decls (all_noted done.plans.items) done.report
 
 -- the summaries of a service of this number of servers on these channels, whatever they did: a report of such a run
 -- exists, and these are its summaries
@@ -58,6 +59,13 @@ IsRefused decls workers NoMemory = Unit {0}
 abbrev pub IsOfAll : {L W : Type 0} → ℕ → Results L W → Type 0
 IsOfAll many results = (vec_len results.left ≡ many) × (vec_len results.workers ≡ many) × (vec_len results.ends ≡ many)
     × (vec_len results.plans ≡ many)
+
+-- each of these workers is in this relation with its final value and with what it returned
+pub record AllEnded {W E : Type 0} (so : W → W → E → Type 0) (before after : List W) (ends : List E) : Type 0 where
+  pub many : length after ≡ length before
+  pub counted : length ends ≡ length before
+  pub each : (k : ℕ) (b a : W) (e : E) → k < length before
+      → so (slice_index_or before k b) (slice_index_or after k a) (slice_index_or ends k e)
 
 -- a run has this number of workers, of results of workers, and of lists of noted transactions
 abbrev pub IsOfEach : {W : Type 0} → ℕ → RunOutcome W → Type 0

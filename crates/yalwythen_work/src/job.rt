@@ -72,7 +72,7 @@ impl<R: Wait, K: Recording, W: Drop, Q: Role<R, K, W>> Task<
 
     ghost Does = { λ job output. (seat : _) → (worker : _) → job.seat ≡ Some seat → job.worker ≡ Some worker
         → IfOk output (λ served. IsLeftOf job.setup.audited seat served.left served.plans
-        × Q.Postcondition worker served.worker) };
+        × Q.Postcondition worker served.worker served.end) };
 
     fn perform(self) -> Result<JobResult<DepartedSeat<K, K::Receipts>, W>, AllocError> {
         run_job(self)
@@ -91,7 +91,7 @@ fn serve<R: Wait, K: Recording, W: Drop, Q: Role<R, K, W>>(
     requires of { seat.lines ≡ table.now.lines }
     requires fresh { seat.commits ≡ no_commits seat.commits.number }
     ensures left { IfOk result (λ served. IsLeftOf setup.audited seat served.left served.plans) }
-    ensures came { IfOk result (λ served. Q.Postcondition worker served.worker) }
+    ensures came { IfOk result (λ served. Q.Postcondition worker served.worker served.end) }
 {
     let mut worker = worker;
     let plans = Plans::new(setup.alloc, setup.audited);
@@ -124,7 +124,7 @@ fn run_job<R: Wait, K: Recording, W: Drop, Q: Role<R, K, W>>(
         × (seat.commits ≡ no_commits seat.commits.number) }
     ensures { (seat : _) → (worker : _) → job.entry.seat ≡ Some seat → job.entry.worker ≡ Some worker
         → IfOk result (λ served. IsLeftOf job.entry.setup.audited seat served.left served.plans
-        × Q.Postcondition worker served.worker) }
+        × Q.Postcondition worker served.worker served.end) }
 {
     let mut job = job;
     let Some(worker) = job.worker.take() else {

@@ -43,6 +43,7 @@ impl<L: Drop, W: Drop> Results<L, W> {
         ensures left { OnOk result (self.new.left.items ≡ self.old.left.items ++ one.left ∷ []) }
         ensures workers { OnOk result (self.new.workers.items ≡ self.old.workers.items ++ one.worker ∷ []) }
         ensures plans { OnOk result (self.new.plans.items ≡ self.old.plans.items ++ one.plans ∷ []) }
+        ensures ends { OnOk result (self.new.ends.items ≡ self.old.ends.items ++ one.end ∷ []) }
         ensures many_left { OnOk result (vec_len self.new.left ≡ vec_len self.old.left + 1) }
         ensures many_workers { OnOk result (vec_len self.new.workers ≡ vec_len self.old.workers + 1) }
         ensures many_ends { OnOk result (vec_len self.new.ends ≡ vec_len self.old.ends + 1) }
@@ -145,10 +146,11 @@ fn unzip_results<L: Drop, W: Drop>(
     served: Vec<JobResult<L, W>>,
 ) -> Result<Results<L, W>, StartError>
     ensures len { IfOk result (λ results. IsOfAll (vec_len served) results) }
-    ensures each { IfOk result (λ results. (k : ℕ) (s : _) (l : _) (w : _) (p : _) → k < vec_len served
+    ensures each { IfOk result (λ results. (k : ℕ) (s : _) (l : _) (w : _) (p : _) (e : _) → k < vec_len served
         → (slice_index_or results.left.items k l ≡ (slice_index_or served.items k s).left)
         × (slice_index_or results.workers.items k w ≡ (slice_index_or served.items k s).worker)
-        × (slice_index_or results.plans.items k p ≡ (slice_index_or served.items k s).plans)) }
+        × (slice_index_or results.plans.items k p ≡ (slice_index_or served.items k s).plans)
+        × (slice_index_or results.ends.items k e ≡ (slice_index_or served.items k s).end)) }
 {
     let mut results = Results {
         left: Vec::new(alloc),
@@ -197,8 +199,9 @@ where
     ensures noted { IfOk result (λ results. IsTrue pool.entry.setup.audited → (k : ℕ) (l : _) (p : _)
         → k < vec_len workers → (slice_index_or results.plans.items k p).kept
         ≡ (slice_index_or results.left.items k l).commits.plans) }
-    ensures came { IfOk result (λ results. (k : ℕ) (b : _) (a : _) → k < vec_len workers
-        → Q.Postcondition (slice_index_or workers.items k b) (slice_index_or results.workers.items k a)) }
+    ensures came { IfOk result (λ results. (k : ℕ) (b : _) (a : _) (e : _) → k < vec_len workers
+        → Q.Postcondition (slice_index_or workers.items k b) (slice_index_or results.workers.items k a)
+        (slice_index_or results.ends.items k e)) }
 {
     let mut jobs: Vec<Job<'a, R, K, W, Q>> = Vec::new(pool.setup.alloc);
     match jobs.reserve(seats.len()) {

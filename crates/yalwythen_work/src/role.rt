@@ -1,4 +1,7 @@
 // The role of a thread: a worker in a run, or a server in a service.
+ghost use Rattle.std.specs.Prelude.{Result};
+ghost use Rattle.yalwythen_work.specs.declared.transact_error.TransactError.{TransactError as TransactErrors};
+
 use crate::recording::Recording;
 use crate::server::Server;
 use crate::session::Session;
@@ -9,12 +12,12 @@ use txc_chan::{FullLog, GhostLog};
 
 /// How the workers of one role run at their sessions.
 pub(crate) trait Role<R: Wait, K: Recording, W> {
-    /// The worker's own claim about its value before it ran and after it has ended.
-    ghost Postcondition: { W → W → Type 0 };
+    /// The worker's own claim about its value before it ran, its final value and what it returned.
+    ghost Postcondition: { W → W → Result Unit TransactErrors → Type 0 };
 
     /// Runs the worker at this session.
     fn work(worker: &mut W, rt: &R, session: &mut Session<'_, K>) -> Result<(), TransactError>
-        ensures { Postcondition worker.old worker.new };
+        ensures { Postcondition worker.old worker.new result };
 }
 
 /// The role of a worker in a run. Its table keeps all logs and receipts.

@@ -78,9 +78,11 @@ pub struct RunOutcome<W> {
 }
 
 impl<W> RunOutcome<W> {
-    ghost use Rattle.std.specs.Prelude.{MatchResult};
+    ghost use Rattle.std.specs.Prelude.{IfErr, MatchResult};
     ghost use Rattle.txc_txn_history.specs.OneOrder.{IsOneOrder};
-    ghost use Rattle.yalwythen_work.specs.Sound.{IsNoFault};
+    ghost use Rattle.txc_table_audit.specs.Conditions.{IsAuditable};
+    ghost use Rattle.yalwythen_work.specs.Ran.{all_noted};
+    ghost use Rattle.yalwythen_work.specs.Sound.{IsNoFault, IsUnmet};
     ghost use Rattle.txc_table_audit.specs.Ranks.{rank_of};
     ghost use Rattle.txc_txn_history.specs.Events.{Event};
     ghost use Rattle.yalwythen_work.specs.Ends.{end_of};
@@ -97,9 +99,9 @@ impl<W> RunOutcome<W> {
     /// Runs all transactions again in one thread, in the order of their stamps. Returns that order if each transaction
     /// commits with the same receipt and all channels end as in the report.
     ///
-    /// Fails with `Unmet` if the report cannot be of these channels, or the transactions were not noted. Fails with
-    /// `Mismatch` if the report is not what one thread would have produced, or allocation fails. It can spin, like a
-    /// push to a broadcast channel.
+    /// Fails with `Unmet` and the first condition that is not met if the report cannot be of these channels, or if the
+    /// transactions were not noted. Fails with `Mismatch` if the report is not what one thread would have produced, or
+    /// if allocation fails. It can spin, like a push to a broadcast channel.
     pub fn audit<R: Wait>(
         &self,
         rt: &R,
@@ -107,10 +109,12 @@ impl<W> RunOutcome<W> {
         decls: &[Decl],
     ) -> Result<Vec<Ranked>, AuditError>
         ensures ok { IfOk result (λ ranks. (order : List Event)
-            × (IsOneOrder decls.now (map (λ seat. seat.kept) self.now.plans.items) self.now.report order
+            × (IsOneOrder decls.now (all_noted self.now.plans.items) self.now.report order
             × (ranks.items ≡ map rank_of order))) }
+        ensures met { IfOk result (λ _. IsAuditable decls.now (all_noted self.now.plans.items) self.now.report) }
+        ensures unmet { IfErr result (IsUnmet decls.now (all_noted self.now.plans.items) self.now.report) }
         ensures serial { (order : List Event)
-            → IsOneOrder decls.now (map (λ seat. seat.kept) self.now.plans.items) self.now.report order
+            → IsOneOrder decls.now (all_noted self.now.plans.items) self.now.report order
             → MatchResult result (λ ranks. ranks.items ≡ map rank_of order) IsNoFault }
     {
         let plans = AllPlans(self.plans.as_slice());

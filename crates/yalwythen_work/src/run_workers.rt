@@ -1,10 +1,9 @@
 // Workers at a new table, from building it until all of them have ended.
 ghost use Rattle.std.specs.Prelude.{◌≡◌, ◌<◌, ℕ, IfOk, IfErr, IsTrue, None, OnOk, slice_index_or, vec_len};
 ghost use Rattle.txc_table_report.specs.Refusal.{refusal};
-ghost use Rattle.yalwythen_work.specs.Ran.{IsOfAll, IsRefused};
+ghost use Rattle.yalwythen_work.specs.Ran.{AllEnded, IsOfAll, IsRefused};
 ghost use Rattle.txc_table.specs.Built.{IsBuilt};
 ghost use Rattle.txc_table.specs.Refused.{AreAllSeats};
-ghost use Rattle.txc_base_threads.specs.Postcondition.{AllRelated};
 
 use crate::pool::{Pool, Results, work_all};
 use crate::recording::Recording;
@@ -53,7 +52,8 @@ where
     ensures noted { IfOk result (λ ended. IsTrue setup.audited → (k : ℕ) (l : _) (p : _) → k < vec_len workers
         → (slice_index_or ended.results.plans.items k p).kept
         ≡ (slice_index_or ended.results.left.items k l).commits.plans) }
-    ensures came { IfOk result (λ ended. AllRelated Q.Postcondition workers.items ended.results.workers.items) }
+    ensures came { IfOk result (λ ended. AllEnded Q.Postcondition workers.items ended.results.workers.items
+        ended.results.ends.items) }
     ensures err { IfErr result (IsRefused decls.now (vec_len workers)) }
 {
     if workers.len() > MAX_SEATS {

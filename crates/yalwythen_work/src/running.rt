@@ -1,7 +1,6 @@
 // A run of workers, from building the table to the report.
 ghost use Rattle.std.specs.Prelude.{IfOk, IfErr, IsTrue, vec_len};
-ghost use Rattle.yalwythen_work.specs.Ran.{IsOfEach, IsRefused, IsRun, IsSerial};
-ghost use Rattle.txc_base_threads.specs.Postcondition.{AllRelated};
+ghost use Rattle.yalwythen_work.specs.Ran.{AllEnded, IsOfEach, IsRefused, IsRun, IsSerial};
 
 use crate::pool::Results;
 use crate::role::WorkerRole;
@@ -25,7 +24,7 @@ fn run_with<R: Threads + Wait + Sync, W: Worker<R> + Send + Drop>(
     ensures ok { IfOk result (λ done. IsRun decls.now (vec_len workers) done.report) }
     ensures serial { IfOk result (λ done. IsTrue setup.audited → IsSerial decls.now done) }
     ensures each { IfOk result (λ done. IsOfEach (vec_len workers) done) }
-    ensures came { IfOk result (λ done. AllRelated W.Postcondition workers.items done.workers.items) }
+    ensures came { IfOk result (λ done. AllEnded W.Postcondition workers.items done.workers.items done.ends.items) }
     ensures err { IfErr result (IsRefused decls.now (vec_len workers)) }
 {
     let ended = run_workers::<R, FullLog, W, WorkerRole>(rt, setup, decls, workers)?;
@@ -54,7 +53,8 @@ fn run_with<R: Threads + Wait + Sync, W: Worker<R> + Send + Drop>(
 }
 
 /// Runs each worker in a thread of its own, at a table of these channels with a seat for each worker, and finishes the
-/// table when all workers have ended. Worker `n` has seat `n`. `Postcondition` holds for each worker.
+/// table when all workers have ended. Worker `n` has seat `n`. `Postcondition` holds for each worker, its final value and
+/// what it returned.
 ///
 /// Fails with `TooManyWorkers` if there are more than 16 workers, then with `Table` if the table cannot be built, then
 /// with `NoThread` if a thread cannot be started, and with `NoMemory` if allocation fails. `Torn` is never returned. On
@@ -68,7 +68,7 @@ pub fn run<R: Threads + Wait + Sync, W: Worker<R> + Send + Drop>(
     ensures ok { IfOk result (λ done. IsRun decls.now (vec_len workers) done.report) }
     ensures serial { IfOk result (IsSerial decls.now) }
     ensures each { IfOk result (λ done. IsOfEach (vec_len workers) done) }
-    ensures came { IfOk result (λ done. AllRelated W.Postcondition workers.items done.workers.items) }
+    ensures came { IfOk result (λ done. AllEnded W.Postcondition workers.items done.workers.items done.ends.items) }
     ensures err { IfErr result (IsRefused decls.now (vec_len workers)) }
 {
     let setup = Setup {
@@ -89,7 +89,7 @@ pub fn run_unaudited<R: Threads + Wait + Sync, W: Worker<R> + Send + Drop>(
 ) -> Result<RunOutcome<W>, RunFault>
     ensures ok { IfOk result (λ done. IsRun decls.now (vec_len workers) done.report) }
     ensures each { IfOk result (λ done. IsOfEach (vec_len workers) done) }
-    ensures came { IfOk result (λ done. AllRelated W.Postcondition workers.items done.workers.items) }
+    ensures came { IfOk result (λ done. AllEnded W.Postcondition workers.items done.workers.items done.ends.items) }
     ensures err { IfErr result (IsRefused decls.now (vec_len workers)) }
 {
     let setup = Setup {

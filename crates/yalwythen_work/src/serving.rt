@@ -1,7 +1,6 @@
 // A service, from building the table to its end.
 ghost use Rattle.std.specs.Prelude.{◌≡◌, IfOk, IfErr, false, vec_len};
-ghost use Rattle.yalwythen_work.specs.Ran.{IsOfAll, IsOfEachServer, IsRefused, IsService};
-ghost use Rattle.txc_base_threads.specs.Postcondition.{AllRelated};
+ghost use Rattle.yalwythen_work.specs.Ran.{AllEnded, IsOfAll, IsOfEachServer, IsRefused, IsService};
 ghost use Rattle.txc_table.specs.Finished.{IsFinishedInSummary};
 ghost use Rattle.txc_table.specs.Refused.{AreAllSeats};
 
@@ -29,7 +28,8 @@ fn close<R: Wait, W: Drop>(
     ensures summaries { IfOk result (λ outcome.
         IsFinishedInSummary ended.table ended.results.left.items outcome.summaries) }
     ensures each { IfOk result (λ outcome. IsOfEachServer ended.table.seats outcome) }
-    ensures servers { IfOk result (λ outcome. outcome.servers ≡ ended.results.workers) }
+    ensures servers { IfOk result (λ outcome. (outcome.servers ≡ ended.results.workers)
+        × (outcome.ends ≡ ended.results.ends)) }
     ensures err { IfErr result (λ fault. fault ≡ RunFault.NoMemory) }
 {
     let EndedWorkers { table, results } = ended;
@@ -65,7 +65,7 @@ fn serve_with<R: Threads + Wait + Sync, W: Server<R> + Send + Drop>(
     requires unnoted { setup.audited ≡ false }
     ensures ok { IfOk result (λ outcome. IsService decls.now (vec_len servers) outcome.summaries) }
     ensures each { IfOk result (λ outcome. IsOfEachServer (vec_len servers) outcome) }
-    ensures came { IfOk result (λ outcome. AllRelated W.Postcondition servers.items outcome.servers.items) }
+    ensures came { IfOk result (λ outcome. AllEnded W.Postcondition servers.items outcome.servers.items outcome.ends.items) }
     ensures err { IfErr result (IsRefused decls.now (vec_len servers)) }
 {
     let ended = run_workers::<R, GhostLog, W, ServerRole>(rt, setup, decls, servers)?;
@@ -88,7 +88,7 @@ pub fn serve<R: Threads + Wait + Sync, W: Server<R> + Send + Drop>(
 ) -> Result<ServiceOutcome<W>, RunFault>
     ensures ok { IfOk result (λ outcome. IsService decls.now (vec_len servers) outcome.summaries) }
     ensures each { IfOk result (λ outcome. IsOfEachServer (vec_len servers) outcome) }
-    ensures came { IfOk result (λ outcome. AllRelated W.Postcondition servers.items outcome.servers.items) }
+    ensures came { IfOk result (λ outcome. AllEnded W.Postcondition servers.items outcome.servers.items outcome.ends.items) }
     ensures err { IfErr result (IsRefused decls.now (vec_len servers)) }
 {
     let setup = Setup {

@@ -9,9 +9,12 @@ ghost use Rattle.yalwythen_work.specs.Committed.{replies_in};
 ghost use Rattle.yalwythen_work.specs.Drained.{AreRead, IsDrained, reading};
 ghost use Rattle.yalwythen_work.specs.Plans.{KeepsPlans};
 ghost use Rattle.yalwythen_work.specs.SeatWithPlans.{IsAfterSession};
+ghost use Rattle.yalwythen_work.specs.Session.{logs_seen, with_seen};
 ghost use Rattle.yalwythen_work.specs.Unready.{IsCheckError};
-ghost use Rattle.txc_table_line.specs.Account.{IsSummary};
+ghost use Rattle.txc_chan.specs.Chan.{summary_of};
+ghost use Rattle.txc_table_line.specs.Account.{IsSnapshotOf};
 ghost use Rattle.txc_table_line.specs.Line.{decl_at};
+ghost use Rattle.txc_table.specs.Seat.{SeesMore};
 ghost use Rattle.txc_table.specs.Table.{decls_of};
 ghost use Rattle.txc_table_seat.specs.Seated.{count, last_receipt};
 ghost use Rattle.txc_table.specs.Seen.{IsBroadcastAt, IsSeen};
@@ -61,6 +64,7 @@ impl<'a, K: Recording> Model for Session<'a, K> {
     ghost view = { λ session. record {
       table = session.table.now;
       seat = session.seat.commits;
+      seen = session.seat.seen;
       audited = session.plans.audited;
       plans = session.plans.kept;
       prepared = session.plans.prepared;
@@ -338,15 +342,18 @@ impl<K: Recording> Session<'_, K> {
 
     /// Takes a snapshot of a channel without its log.
     ///
-    /// Fails with `Unfit(NoChannel)` if there is no such channel, with `Stopped(NoMemory)` if allocation fails, and
-    /// with no other error. The session is unchanged. Blocks on that channel's lock. Allocates memory for the items
-    /// left in the channel.
+    /// The channel has at least the entries that the session has seen of its log. Fails with `Unfit(NoChannel)` if
+    /// there is no such channel, with `Stopped(NoMemory)` if allocation fails, and with no other error. The session has
+    /// then seen the channel's log and is otherwise unchanged. Blocks on that channel's lock. Allocates memory for the
+    /// items left in the channel.
     pub fn summary<R: Wait>(&mut self, rt: &R, chan: u16) -> Result<Summary, TransactError>
-        ensures ok { IfOk result (IsSummary (decl_at (decls_of self.old.table.lines) chan)
-            (count chan self.old.seat.receipts)) }
+        ensures ok { IfOk result (IsSnapshotOf summary_of (decl_at (decls_of self.old.table.lines) chan)
+            (count chan self.old.seat.receipts) (logs_seen self.new chan)) }
+        ensures seen { SeesMore (logs_seen self.old) (logs_seen self.new) }
         ensures there { OnOk result (chan < length self.old.table.kinds) }
         ensures err { IfErr result (IsSnapshotError self.old chan) }
-        ensures same { self.new ≡ self.old }
+        ensures same { self.new ≡ with_seen self.old self.new.seen }
+        ensures unchanged { OnErr result (self.new ≡ self.old) }
     {
         if !self.is_there(chan) {
             return Err(TransactError::Unfit(TxnFault::NoChannel));

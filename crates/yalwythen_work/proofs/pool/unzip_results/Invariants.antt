@@ -10,8 +10,9 @@ invariant-loop-one g l = record {
   workers : vec_len l.results.workers ≡ vec_len l.results.left;
   ends : vec_len l.results.ends ≡ vec_len l.results.left;
   plans : vec_len l.results.plans ≡ vec_len l.results.left;
-  each : (k : ℕ) (s : _) (x : _) (w : _) (p : _) → k < vec_len l.results.left
+  each : (k : ℕ) (s : _) (x : _) (w : _) (p : _) (e : _) → k < vec_len l.results.left
       → (slice_index_or l.results.left.items k x ≡ (slice_index_or l.fn.served.items k s).left)
       × (slice_index_or l.results.workers.items k w ≡ (slice_index_or l.fn.served.items k s).worker)
-      × (slice_index_or l.results.plans.items k p ≡ (slice_index_or l.fn.served.items k s).plans);
+      × (slice_index_or l.results.plans.items k p ≡ (slice_index_or l.fn.served.items k s).plans)
+      × (slice_index_or l.results.ends.items k e ≡ (slice_index_or l.fn.served.items k s).end);
 }

@@ -65,7 +65,7 @@ returns-clause-numbered g c = IfOk-weaker c.unzip_results.result _ _ (λ results
     let is = c.make_jobs.ensures.each k j s w here in
     let does = all.each k j d sent (slice_index_or c.args.seats.items k s) (slice_index_or c.args.workers.items k w)
     is.0 is.1 in
-    let at = sorted k d l w (slice_index_or served.items k d).plans (subst (λ n. k < n) (sym served.ok.0) came) in
+    let at = sorted k d l w (slice_index_or served.items k d).plans (slice_index_or served.items k d).end (subst (λ n. k < n) (sym served.ok.0) came) in
     ap (λ (x : DepartedSeatView). x.commits.number) at.0 ∙ does.0.number
     ∙ ap (λ (x : SeatCommits). x.number) (c.requires.fresh k s seat)) c.unzip_results.ensures.each
 
@@ -85,7 +85,7 @@ returns-clause-of g c = IfOk-weaker c.unzip_results.result _ _ (λ results sorte
     let is = c.make_jobs.ensures.each k j s w here in
     let does = all.each k j d sent (slice_index_or c.args.seats.items k s) (slice_index_or c.args.workers.items k w)
     is.0 is.1 in
-    let at = sorted k d l w (slice_index_or served.items k d).plans (subst (λ n. k < n) (sym served.ok.0) came) in
+    let at = sorted k d l w (slice_index_or served.items k d).plans (slice_index_or served.items k d).end (subst (λ n. k < n) (sym served.ok.0) came) in
     ap (λ (x : DepartedSeatView). x.lines) at.0 ∙ does.0.lines ∙ c.requires.of k s seat) c.unzip_results.ensures.each
 
 pub returns-clause-noted : goal.returns-clause-noted
@@ -104,12 +104,12 @@ returns-clause-noted g c = IfOk-weaker c.unzip_results.result _ _ (λ results so
     let is = c.make_jobs.ensures.each k j s w here in
     let does = all.each k j d sent (slice_index_or c.args.seats.items k s) (slice_index_or c.args.workers.items k w)
     is.0 is.1 in
-    let at = sorted k d l w p (subst (λ n. k < n) (sym served.ok.0) came) in
-    ap (λ (b : PlansView). b.kept) at.2 ∙ does.0.noted (subst (λ (x : Setup). IsTrue x.audited) (sym is.2) audited)
+    let at = sorted k d l w p (slice_index_or served.items k d).end (subst (λ n. k < n) (sym served.ok.0) came) in
+    ap (λ (b : PlansView). b.kept) at.2.0 ∙ does.0.noted (subst (λ (x : Setup). IsTrue x.audited) (sym is.2) audited)
     ∙ ap (λ (x : DepartedSeatView). x.commits.plans) (sym at.0)) c.unzip_results.ensures.each
 
 pub returns-clause-came : goal.returns-clause-came
-returns-clause-came g c = IfOk-weaker c.unzip_results.result _ _ (λ results sorted k b a below.
+returns-clause-came g c = IfOk-weaker c.unzip_results.result _ _ (λ results sorted k b a e below.
     let jobs = c.make_jobs.new.jobs in
     let served = c.in_ok-served.served in
     let all = c.in_ok-served.ensures.came in
@@ -124,6 +124,8 @@ returns-clause-came g c = IfOk-weaker c.unzip_results.result _ _ (λ results sor
     let does = all.each k j d sent (slice_index_or c.args.seats.items k s) (slice_index_or c.args.workers.items k b)
     is.0 is.1 in
     let at = sorted k d (slice_index_or served.items k d).left a (slice_index_or served.items k d).plans
-    (subst (λ n. k < n) (sym served.ok.0) came) in
-    subst (λ x. g.Q.Role.Postcondition (slice_index_or c.args.workers.items k b) x) (sym at.1) does.1)
+    e (subst (λ n. k < n) (sym served.ok.0) came) in
+    subst (λ x. g.Q.Role.Postcondition (slice_index_or c.args.workers.items k b) x (slice_index_or results.ends.items k e))
+    (sym at.1) (subst (λ x. g.Q.Role.Postcondition (slice_index_or c.args.workers.items k b)
+    (slice_index_or served.items k d).worker x) (sym at.2.1) does.1))
     c.unzip_results.ensures.each

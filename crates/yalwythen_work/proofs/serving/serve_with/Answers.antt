@@ -2,8 +2,7 @@ use Rattle.std.proofs.Common.{subst, sym}
 use Rattle.std.proofs.lemmas.Result.{IfErr-weaker, IfOk-weaker}
 use Rattle.std.specs.Prelude.{vec_len}
 use Rattle.yalwythen_work.proofs.Ending.{served}
-use Rattle.yalwythen_work.specs.Ran.{IsOfAll, IsOfEachServer, IsRefused}
-use Rattle.txc_base_threads.specs.Postcondition.{AllRelated}
+use Rattle.yalwythen_work.specs.Ran.{AllEnded, IsOfAll, IsOfEachServer, IsRefused}
 use Rattle.yalwythen_work.proofs.serving.serve_with.Goals as goal
 
 pub close-requires-clause-many : goal.close-requires-clause-many
@@ -25,8 +24,9 @@ returns-clause-each g c = IfOk-weaker c.close.result _ _ (λ closed each.
 
 pub returns-clause-came : goal.returns-clause-came
 returns-clause-came g c = IfOk-weaker c.close.result _ _ (λ closed same.
-    subst (λ ws. AllRelated g.W.Server.Postcondition c.args.servers.items ws.items) (sym same)
-    c.in_ok-ended.ensures.came)
+    subst (λ ws. AllEnded g.W.Server.Postcondition c.args.servers.items ws.items closed.ends.items) (sym same.0)
+    (subst (λ es. AllEnded g.W.Server.Postcondition c.args.servers.items c.in_ok-ended.ended.results.workers.items
+    es.items) (sym same.1) c.in_ok-ended.ensures.came))
     c.close.ensures.servers
 
 pub returns-clause-err : goal.returns-clause-err

@@ -26,3 +26,4 @@ returns-clause-tried g c =
     c.in_ok-plan.plan c.in_ok-tried.tried))
     (c.note_if_kept.ensures.audited ∙ c.ready.ensures.same.audited)
     (c.note_if_kept.ensures.prepared ∙ c.ready.ensures.same.prepared) c.in_ok-tried.ensures.outcome.returned
+    c.in_ok-tried.ensures.outcome.sees

@@ -35,4 +35,4 @@ returns-in-Kept-clause-committed g c =
     (c.note.ensures.kept ∙ (λ i. noted (c.ready.ensures.same.audited i) (c.ready.ensures.same.kept i)
     c.in_ok-plan.plan))
     (c.note.ensures.audited ∙ c.ready.ensures.same.audited) (c.note.ensures.prepared ∙ c.ready.ensures.same.prepared)
-    found
+    found (rw c.in-Kept.is at c.in_ok-number.ensures.outcome.sees)

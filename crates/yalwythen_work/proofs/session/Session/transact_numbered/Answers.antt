@@ -22,7 +22,8 @@ returns-in-Kept-clause-committed g c =
           (get_or_from_slice_get c.reserve_prepared.new.self.prepared c.args.number plan no_plan c.in-Some.ensures.some
           i)))
           (c.note_prepared.ensures.audited ∙ c.reserve_prepared.ensures.audited)
-          (c.note_prepared.ensures.prepared ∙ c.reserve_prepared.ensures.prepared) found,
+          (c.note_prepared.ensures.prepared ∙ c.reserve_prepared.ensures.prepared) found
+          (rw c.in-Kept.is at c.in_ok-receipt.ensures.outcome.sees),
     )
 
 pub returns-in-Stalled-clause-failed : goal.returns-in-Stalled-clause-failed
