@@ -1,7 +1,8 @@
 #!/usr/bin/env python3
 """edit_files.py EDIT FOLDER: changes the crate in FOLDER as the mutant in the file EDIT does.
 
-A mutant is a file crates/CRATE/must-fail/NAME.edit or crates/CRATE/edits/NAME.edit. A line `file: PATH` names a file of
+A mutant is a file crates/CRATE/must-fail/NAME.edit, crates/CRATE/edits/NAME.edit or, if only a test sees it,
+crates/CRATE/tested/NAME.edit. A line `file: PATH` names a file of
 the crate. A line `old: TEXT` and the line `new: TEXT` after it replace a text that occurs once in that file.
 """
 import re
@@ -10,6 +11,8 @@ from pathlib import Path
 
 ROOT = Path(__file__).resolve().parent.parent
 FOLDERS = ("must-fail", "edits")
+# Mutants that only a test sees.
+TESTED = "tested"
 FUNCTION = re.compile(r'^( *)(?:pub(?:\([a-z]+\))? )?(?:const )?(?:unsafe )?(?:extern "C" )?fn (\w+)')
 
 IMPL = re.compile(r"^(?:unsafe )?impl\b(<.*?>+)? (?:(\S.*) for )?(?:\w+::)*(\w+)")
@@ -22,6 +25,11 @@ class Invalid(Exception):
 def edits_of(crate):
     """The mutants of the crate in a folder, from both folders."""
     return [it for folder in FOLDERS for it in sorted((crate / folder).glob("*.edit"))]
+
+
+def tested_in(crate):
+    """The mutants of the crate in a folder that only a test sees."""
+    return sorted((crate / TESTED).glob("*.edit"))
 
 
 def pairs_of(edit):

@@ -344,8 +344,8 @@ def crates_with_edits():
 def apply_all():
     """How many mutants can be applied, and how many not."""
     passed = failed = 0
-    for crate in crates_with_edits():
-        for edit in edit_files.edits_of(crate):
+    for crate in sorted(CRATES.iterdir()):
+        for edit in [*edit_files.edits_of(crate), *edit_files.tested_in(crate)]:
             try:
                 edit_files.texts_of(crate, [edit])
                 passed += 1

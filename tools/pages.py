@@ -14,6 +14,7 @@
 - The crates that a heading of docs/GUARANTEES.md names have each function, file and clause that a row below it names.
 - The pages that are read by all, WORDY, have at most MOST_WORDS words in all. This number may only fall. A word is a
   piece of text between spaces with a letter or a digit in it, outside of the blocks between ```.
+- The list of calls without a clause in docs/GUARANTEES.md is that of tools/unclaused.py.
 - These pages and the comments of crates/*/src and crates/*/specs use the words AVOIDED, and the comments ONLY_A_PLACE
   too, at most MOST_AVOIDED times in all. This number may only fall. Code between backticks does not count.
 
@@ -27,6 +28,9 @@ import sys
 from functools import cache
 from pathlib import Path
 from textwrap import dedent
+
+sys.dont_write_bytecode = True
+import unclaused
 
 ROOT = Path(__file__).resolve().parent.parent
 # Those of docs/reference/ are made, and compared with the sources, by tools/reference.py.
@@ -231,6 +235,7 @@ def findings(page):
         yield from wrong_records()
     if page == ROOT / "docs/GUARANTEES.md":
         yield from wrong_claims(text)
+        yield None if unclaused.is_up_to_date() else "a list of calls without a clause: run tools/unclaused.py --write"
     if page == ROOT / "README.md":
         yield wrong_length()
         yield wrong_words()

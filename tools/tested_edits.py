@@ -1,8 +1,9 @@
 #!/usr/bin/env python3
-"""tested_edits.py [--times N] [CRATE..]: tries the mutants in crates/CRATE/tested/, of all crates or of these, and
-reports those that their test does not see each time. ./test doesn't run it.
+"""tested_edits.py [--times N] [CRATE..]: tries the mutants of all crates or of these that name a test, and reports those
+that the test does not see each time. ./test doesn't run it.
 
-No contract can express what these mutants change, such as a notification that is never sent. A line `test: NAME PATH`
+No contract can express what the mutants in crates/CRATE/tested/ change, such as a notification that is never sent. Of
+the others, those name a test of which tools/edit_reasons.py cannot say that a contract rejects them. A line `test: NAME PATH`
 of a mutant names the test that sees it: the test PATH of tests/NAME, such as `times::a_notified_seat_returns`. With
 `test: NAME PATH REFUSE_THREAD=2`, tools/growths.c makes the start of the second thread fail. The test is compiled over
 the mutant without proofs, and run N times, ten by default. The mutant is seen if each run fails or hangs. A run has 20
@@ -97,8 +98,9 @@ def main():
     parser.add_argument("crates", nargs="*", metavar="CRATE")
     asked = parser.parse_args()
     unproved.end_at_signals()
-    names = asked.crates or sorted(it.parent.name for it in CRATES.glob("*/tested"))
-    edits = [it for name in names for it in sorted((CRATES / name / "tested").glob("*.edit"))]
+    names = asked.crates or sorted(it.name for it in CRATES.iterdir())
+    every = [it for name in names for it in [*edit_files.tested_in(CRATES / name), *edit_files.edits_of(CRATES / name)]]
+    edits = [it for it in every if NAMED.search(it.read_text(encoding="utf-8"))]
     place = subprocess.run(["mktemp", "-d"], stdout=subprocess.PIPE, text=True, check=True).stdout.strip()
     try:
         preloaded = ["cc", "-shared", "-fPIC", "-o", f"{place}/growths.so", edit_files.ROOT / "tools/growths.c", "-ldl"]

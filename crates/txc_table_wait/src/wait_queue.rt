@@ -1,5 +1,7 @@
 // The wait queue.
-ghost use Rattle.std.specs.Prelude.{◌≡◌, ◌≤◌, IfOk, false, min, true};
+ghost use Rattle.std.specs.Prelude.{◌≡◌, ◌≤◌, ◌-◌, IfNone, IfOk, IfSome, false, min, true};
+ghost use Rattle.core.specs.Duration.{as_nanos};
+ghost use Rattle.std.specs.Time.{instant_nanos};
 ghost use Rattle.txc_base.specs.declared.limits.TheConstants.{MAX_SEATS_OF_LARGE};
 
 use crate::change::{Change, Interest};
@@ -38,12 +40,20 @@ impl Model for WaitQueue {
         { channels = vec_len wait_queue.interested; seats = vec_len wait_queue.parkers } };
 }
 
+/// Returns the time left from `now` until `until`: zero if it has passed, or if there is no `now`.
+fn left_at(now: Option<Instant>, until: Instant) -> Duration
+    ensures some { IfSome now (λ time. as_nanos result ≡ instant_nanos until - instant_nanos time) }
+    ensures none { IfNone now (as_nanos result ≡ 0) }
+{
+    match now {
+        Some(time) => until.saturating_duration_since(time),
+        None => Duration::ZERO,
+    }
+}
+
 /// Returns the time left until `until`: zero if it has passed or if the clock cannot be read.
 fn time_left<R: Clock>(rt: &R, until: Instant) -> Duration {
-    match Instant::now(rt) {
-        Ok(now) => until.saturating_duration_since(now),
-        Err(_) => Duration::ZERO,
-    }
+    left_at(Instant::now(rt).ok(), until)
 }
 
 impl WaitQueue {
