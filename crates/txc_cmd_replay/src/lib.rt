@@ -9,5 +9,7 @@ mod output;
 mod rounds;
 mod seat_progress;
 
+pub use channels::Channels;
 pub use output::replay_text;
-pub use rounds::{replay, show_last_round};
+pub use rounds::{fresh_progress, replay, show_last_round};
+pub use seat_progress::SeatProgress;

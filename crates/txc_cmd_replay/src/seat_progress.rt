@@ -16,7 +16,7 @@ use txc_txn::{Checked, Ran, Receipt, run_held};
 
 /// The progress of a seat: the receipts of its committed transactions, and how its last try ended.
 #[derive(Debug, Drop)]
-pub(crate) struct SeatProgress {
+pub struct SeatProgress {
     receipts: Vec<Receipt>,
     end: SeatEnd,
 }
@@ -37,7 +37,7 @@ impl Model for SeatProgress {
 impl SeatProgress {
     /// Makes the progress of a seat that has tried nothing, with capacity for this number of receipts. Fails if
     /// allocation fails.
-    pub(crate) fn fresh(alloc: Global, transactions: usize) -> Result<SeatProgress, AllocError>
+    pub fn fresh(alloc: Global, transactions: usize) -> Result<SeatProgress, AllocError>
         ensures { IfOk result (λ seat_progress. seat_progress ≡ untried) }
     {
         Ok(SeatProgress {
@@ -47,11 +47,18 @@ impl SeatProgress {
     }
 
     /// Returns how the last try ended. Returns `Finished` if it committed, or if there was none.
-    pub(crate) fn end(&self) -> SeatEnd
+    pub fn end(&self) -> SeatEnd
         ensures end { result ≡ self.now.end }
         ensures known { result ≢ SeatEnd.Stopped Stop.NoMemory }
     {
         self.end
+    }
+
+    /// Returns how many transactions it has committed.
+    pub fn kept(&self) -> usize
+        ensures { result ≡ length self.now.receipts }
+    {
+        self.receipts.len()
     }
 
     /// Returns the receipts of the committed transactions, in order.
@@ -132,7 +139,7 @@ impl SeatProgress {
 
     /// Runs a seat's turn: the seat tries its next transaction, if there is one. Returns whether it committed. Fails if
     /// allocation fails.
-    pub(crate) fn turn<R: Append>(
+    pub fn turn<R: Append>(
         &mut self,
         rt: &R,
         alloc: Global,

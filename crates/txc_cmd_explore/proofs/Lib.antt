@@ -1,0 +1,9 @@
+pub mod Deciding
+pub mod Shapes
+pub mod Tries
+pub mod Moving
+pub mod Searching
+pub mod Indexing
+pub mod Following
+pub mod Expanding
+pub mod Finishing
