@@ -1,17 +1,20 @@
 #!/usr/bin/env python3
-"""answer.py check|replay|run < script: prints what `chanrun` prints for a script, with its status, by the reference
-model: tools/reading.py reads the script, and tools/play.py runs it. It shares no code with the proved program. `run`
-prints the report of the round-robin order, which is that of `replay`; the program may print another one.
+"""answer.py check|replay|explore|run < script: prints what `chanrun` prints for a script, with its status, by the
+reference model: tools/reading.py reads the script, tools/play.py runs it, and tools/orders.py finds the ends of all its
+orders. It shares no code with the proved program. `run` prints the report of the round-robin order, which is that of
+`replay`; the program may print another one.
 """
+import collections
 import os
 import sys
 
 sys.dont_write_bytecode = True
+import orders
 import play
 import reading
 
 USAGE = "usage: chanrun check|replay|run < script"
-WORDS = ("check", "replay", "run")
+WORDS = ("check", "replay", "explore", "run")
 STATUSES = {"done": 0, "stopped": 1, "stalled": 3}
 
 
@@ -22,6 +25,8 @@ def answer(word, script):
         return line + "\n", 1
     if word == "check":
         return line + "\n", 0
+    if word == "explore":
+        return explored(orders.ends(reading.tree_of(script)))
     lines, end = report(reading.tree_of(script))
     return "".join(f"{it}\n" for it in [*lines, f"end {end}"]), STATUSES[end]
 
@@ -40,6 +45,19 @@ def report(script):
         lines += [with_text(f"chan {number} reader {reader} left:", items) for reader, items in enumerate(lists)]
     ends = {it.what for it in events}
     return lines, next((it for it in ("stopped", "stalled") if it in ends), "done")
+
+
+def explored(found):
+    """The text and the status for the ends of all orders, or for too many orders."""
+    if found is None:
+        return "fault: too many orders\n", 1
+    lines = []
+    for end, order in found:
+        lines += [" ".join(map(str, ("end", end.word, "by", *order))), *end.lines]
+    words = collections.Counter(end.word for end, _ in found)
+    summary = ", ".join(f"{words[word]} {word}" for word in ("done", "stalled", "stopped"))
+    status = next((STATUSES[word] for word in ("stopped", "stalled") if words[word]), 0)
+    return "".join(f"{it}\n" for it in [*lines, f"ends: {summary}"]), status
 
 
 def line_of(event):

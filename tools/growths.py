@@ -258,7 +258,7 @@ def main():
                   for crate, names in WHOLLY_REFUSED.items() for name in names]
         parts += [pool.submit(refuse_program, preloaded, word, name)
                   for word in ("check", "replay") for name in SCRIPTS]
-        parts.append(pool.submit(refuse_program, preloaded, "run", SCRIPTS[0]))
+        parts += [pool.submit(refuse_program, preloaded, word, SCRIPTS[0]) for word in ("explore", "run")]
         chanrun = [ROOT / "crates/chanrun/out/chanrun", "run"]
         parts.append(pool.submit(without_a_thread, preloaded, chanrun, 3, NO_THREAD, ROOT / "examples/pipeline.json"))
         parts += [pool.submit(without_a_thread, preloaded, [programs["yalwythen_work_tests"], f"threads::{name}"], 3,

@@ -8,7 +8,7 @@ program: what both print, and their status.
 - COUNT valid random scripts from SEED, by `replay`: 6,000 from 29 if none are given. Each reply, each cause and each
   end must be among their reports.
 
-tools/hostile.py compares 6,000 broken scripts. Each comparison counts by itself. The last line is
+tools/hostile.py compares 6,000 broken scripts, and tools/explored.py what `explore` prints. Each comparison counts by itself. The last line is
 'N passed, M failed'.
 """
 import collections
@@ -42,7 +42,7 @@ def stored():
         script = file.read_bytes()
         checked, _ = answer.answer("check", script)
         is_determined = checked.startswith("fault") or " 1 seats " in checked
-        for word in answer.WORDS if is_determined else ("check", "replay"):
+        for word in ("check", "replay", "run") if is_determined else ("check", "replay"):
             yield f"{word} {file.relative_to(ROOT)}", word, script
     for file in sorted(ROOT.glob("scripts/*.cases")):
         for number, line in enumerate(file.read_bytes().split(b"\n"), 1):

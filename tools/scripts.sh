@@ -7,8 +7,8 @@
 #                Where the script has one seat or is refused, and of rounds.json, `run` prints what
 #                `replay` does.
 #   NAME.cases   a line for each script: what `check` prints, a tab and the script. The status is 0 with an
-#                `ok` line and 1 with the line of a fault, which `replay` and `run` print too. '#' begins a
-#                comment.
+#                `ok` line and 1 with the line of a fault, which `replay`, `explore` and `run` print too. '#'
+#                begins a comment.
 #   NAME.words   a line for each call that is refused: what it shows, and each word of it behind a tab. The
 #                answer is the usage line with status 2, and nothing is read.
 #
@@ -46,13 +46,13 @@ compare() {
   fi
 }
 
-# What is named $1: the line $2 is the answer of `check` to the script $3, and of `replay` and `run` where it is a
-# fault.
+# What is named $1: the line $2 is the answer of `check` to the script $3, and of `replay`, `explore` and `run` where it
+# is a fault.
 compare_line() {
   case $2 in
     ok*) compare "$1" "$2"$'\nstatus 0' "$(printf '%s' "$3" | answer check)" ;;
-    *) compare "$1" "$2"$'\nstatus 1\n'"$2"$'\nstatus 1\n'"$2"$'\nstatus 1' \
-      "$(for word in check replay run; do printf '%s' "$3" | answer "$word"; done)" ;;
+    *) compare "$1" "$(for _ in 1 2 3 4; do printf '%s\nstatus 1\n' "$2"; done)" \
+      "$(for word in check replay explore run; do printf '%s' "$3" | answer "$word"; done)" ;;
   esac
 }
 

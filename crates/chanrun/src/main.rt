@@ -1,4 +1,5 @@
-//! `chanrun check|replay|run < script`: checks a script, or runs it and prints its report.
+//! `chanrun check|replay|explore|run < script`: checks a script, or runs it and prints its report, or the ends of all
+//! its orders.
 #![tactic(auto)]
 
 use std::alloc::AllocError;

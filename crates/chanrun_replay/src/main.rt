@@ -1,5 +1,5 @@
-//! `chanrun check|replay < script`: checks a script, or runs it in one thread and prints its report. It is `chanrun`
-//! without `run`. It uses fewer crates, so it is proved sooner.
+//! `chanrun check|replay|explore < script`: checks a script, or runs it in one thread and prints its report, or the ends
+//! of all its orders. It is `chanrun` without `run`. It uses fewer crates, so it is proved sooner.
 #![tactic(auto)]
 
 use std::alloc::AllocError;

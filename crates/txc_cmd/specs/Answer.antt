@@ -4,7 +4,7 @@ use Rattle.std.specs.Fmt.{decimal}
 use Rattle.txc_cmd_script.specs.declared.fault.ScriptFault.{ScriptFault}
 use Rattle.txc_cmd_io.specs.declared.words.Action.{Action}
 use Rattle.txc_cmd_answer.specs.Answer.{Answer, faulty, reported}
-use Rattle.txc_cmd_answer.specs.Answer.{AnswersBy, MayAnswerBy, IsAnsweredBy, WroteWholeBy}
+use Rattle.txc_cmd_answer.specs.Answer.{AnswersBy, IsAnsweredBy, WroteWholeBy}
 use Rattle.txc_cmd_report.specs.declared.outcome.Outcome.{Outcome as Ran}
 use Rattle.txc_cmd_report.specs.Outcome.{outcome_of}
 use Rattle.txc_cmd_script.specs.Script.{Script}
@@ -45,13 +45,12 @@ MayRun (Err fault) answer = answer ≡ faulty fault
 abbrev pub AnswersTo : Option Action → List ℕ → Answer → Type 0
 AnswersTo asked bytes answer = AnswersBy MayRun asked bytes answer
 
--- a possible answer of the program to words and a reader's bytes, if these are known
-abbrev pub MayAnswer : List (List ℕ) → Option (List ℕ) → Answer → Type 0
-MayAnswer words known answer = MayAnswerBy MayRun (action_in words) known answer
-
--- a run of the program, by its words, the reader's bytes before, the writer's before and after, and the status
-abbrev pub IsAnswered : List (List ℕ) → Option (List ℕ) → Option (List ℕ) → Option (List ℕ) → ℕ → Type 0
-IsAnswered words known before after status = IsAnsweredBy MayRun (action_in words) known before after status
+-- a run of the program, by its words, the reader's bytes before, the writer's before and after, whether the writer was
+-- flushed and whether it failed, and the status
+abbrev pub IsAnswered : List (List ℕ) → Option (List ℕ) → Option (List ℕ) → Option (List ℕ) → Type 0 → Type 0 → ℕ
+    → Type 0
+IsAnswered words known before after Flushed Failed status =
+    IsAnsweredBy MayRun (action_in words) known before after Flushed Failed status
 
 -- a run that wrote the whole of an answer, with its status
 abbrev pub WroteWhole : List (List ℕ) → Option (List ℕ) → Option (List ℕ) → Option (List ℕ) → ℕ → Type 0

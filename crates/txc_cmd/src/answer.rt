@@ -10,7 +10,7 @@ use std::alloc::{AllocError, Global};
 use std::sync::Wait;
 use std::thread::Threads;
 use txc_cmd_answer::{
-    Answer, check_answer, fault_answer, outcome_answer, read_owned, replay_answer,
+    Answer, check_answer, explore_answer, fault_answer, outcome_answer, read_owned, replay_answer,
 };
 use txc_cmd_io::Action;
 use txc_cmd_report::{Outcome, Text};
@@ -109,6 +109,7 @@ pub(crate) fn make_answer<H: Threads + Wait + Sync>(
     match action {
         Action::Check => check_answer(alloc, bytes.as_slice()),
         Action::Replay => replay_answer(rt, alloc, bytes),
+        Action::Explore => explore_answer(rt, alloc, bytes),
         Action::Run => run_answer(rt, alloc, bytes),
     }
 }

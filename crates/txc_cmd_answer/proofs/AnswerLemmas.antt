@@ -1,14 +1,17 @@
 -- What a program may answer.
 use Rattle.std.proofs.Common.{◌≡◌, ◌≢◌, refl, sym, subst, ◌∙◌, ap, ℕ, ◌<◌, inl, inr, true, false, nat_lt, List}
-use Rattle.std.proofs.Common.{length, take, Option, Some, IfSome, Result, Err, arith}
+use Rattle.std.proofs.Common.{length, take, Option, Some, None, IfSome, IfOk, IfErr, Result, Ok, Err, arith}
 use Rattle.std.specs.Io.KnownBytes.{Appends}
 use Rattle.std.proofs.lemmas.Bool.Decides.{eqb_tells, nat_tests}
 use Rattle.std.proofs.lemmas.Option.{IfSome_then}
 use Rattle.txc_cmd_script.specs.declared.fault.ScriptFault.{ScriptFault}
 use Rattle.txc_cmd_script.specs.declared.fault.ScriptFault.TheVariants.{ReadFailed, TooLarge, NoMemory}
 use Rattle.txc_cmd_io.specs.declared.words.Action.{Action}
-use Rattle.txc_cmd_io.specs.declared.words.Action.TheVariants.{Check, Replay, Run}
-use Rattle.txc_cmd_answer.specs.Answer.{AnswersBy, Answer, faulty, IsAnsweredBy, MayAnswerBy, WroteWholeBy}
+use Rattle.txc_cmd_io.specs.declared.words.Action.TheVariants.{Check, Replay, Explore, Run}
+use Rattle.txc_cmd_io.specs.declared.words.ArgsFault.{ArgsFault}
+use Rattle.txc_cmd_io.specs.declared.words.ArgsFault.TheVariants.{Usage}
+use Rattle.txc_cmd_io.specs.declared.words.ArgsFault.TheVariants as args_fault
+use Rattle.txc_cmd_answer.specs.Answer.{AnswersBy, Answer, faulty, refused_by, IsWritten, MayAnswerBy, WroteWholeBy}
 use Rattle.txc_cmd_script.specs.Reading.{max_bytes, script_in}
 use Rattle.txc_cmd_script.specs.Script.{Script}
 
@@ -25,6 +28,7 @@ too_large-answer : (MayRun : Result Script ScriptFault → Answer → Type 0) (a
     → AnswersBy MayRun (Some action) bytes answer
 too_large-answer MayRun Check bytes answer tells long is = rw (too_large bytes long) is
 too_large-answer MayRun Replay bytes answer tells long is = rw (too_large bytes long) is
+too_large-answer MayRun Explore bytes answer tells long is = rw (too_large bytes long) is
 too_large-answer MayRun Run bytes answer tells long is = rw (too_large bytes long) (tells refl TooLarge answer is)
 
 -- after a read that failed, gave too much, or met no memory
@@ -66,39 +70,54 @@ may_lack MayRun asked known answer is = record {
   answers = λ not_memory _. absurd (not_memory is);
 }
 
--- an answer of which a part is written, and the whole with its status unless the status is 1
-pub answered : (MayRun : Result Script ScriptFault → Answer → Type 0) (asked : Option Action)
-    (known before after : Option (List ℕ)) (answer : Answer) (status : ℕ) → MayAnswerBy MayRun asked known answer
-    → ((n : ℕ) × Appends before after (take n answer.text))
-    → (status ≢ 1 → Appends before after answer.text × (status ≡ answer.status))
-    → IsAnsweredBy MayRun asked known before after status
-answered MayRun asked known before after answer status may part whole = elim (eqb_tells status 1) [
-  | inl one ↦ record {
-    answer = answer;
-    may = may;
-    part = part;
-    done = false;
-    whole = λ done. cc;
-    failed = λ failed. one.1;
-  }
-  | inr other ↦ record {
-    answer = answer;
-    may = may;
-    part = part;
-    done = true;
-    whole = λ done. whole other.1;
-    failed = λ failed. cc;
-  }
-]
+holds_always : {X : Type 0} (o : Option X) {P : X → Type 0} → ((x : X) → P x) → IfSome o P
+holds_always None f = tt
+holds_always (Some x) f = f x
 
--- so of a status that tells that the whole was written
+-- words that request nothing
+pub may_refuse : (MayRun : Result Script ScriptFault → Answer → Type 0) (asked : Option Action)
+    (known : Option (List ℕ)) (answer : Answer) (fault : ArgsFault) → answer ≡ refused_by fault
+    → (fault ≡ Usage → asked ≡ None) → MayAnswerBy MayRun asked known answer
+may_refuse MayRun asked known answer Usage is none = record {
+  refused = λ _ _. is;
+  answers = λ _ _. holds_always known (λ bytes.
+      subst (λ (a : Option Action). AnswersBy MayRun a bytes answer) (sym (none refl)) is);
+}
+may_refuse MayRun asked known answer args_fault.NoMemory is none = may_lack MayRun asked known answer is
+
+module _ (MayRun : Result Script ScriptFault → Answer → Type 0) (f : Option Action → Option Action)
+    (keeps_none : f None ≡ None) (named : Option Action) (known : Option (List ℕ)) (answer : Answer) where
+  -- the answer to what words request is an answer to the words
+  pub may_respond : (request : Result Action ArgsFault) → IfOk request (λ a. named ≡ Some a)
+      → IfErr request (λ e. e ≡ Usage → named ≡ None) → IfErr request (λ e. answer ≡ refused_by e)
+      → IfOk request (λ a. MayAnswerBy MayRun (f (Some a)) known answer) → MayAnswerBy MayRun (f named) known answer
+  may_respond (Ok action) is none refuses may = as_asked MayRun (f named) (f (Some action)) known answer (ap f is) may
+  may_respond (Err fault) is none refuses may =
+      may_refuse MayRun (f named) known answer fault refuses (λ usage. ap f (none usage) ∙ keeps_none)
+
+-- a reader from which nothing is read if words request nothing
+pub unread_by : {P : Type 0} (f : Option Action → Option Action) (named : Option Action)
+    (request : Result Action ArgsFault) → IfOk request (λ a. named ≡ Some a)
+    → IfOk request (λ a. f (Some a) ≡ None → P) → IfErr request (λ _. P) → f named ≡ None → P
+unread_by f named (Ok action) is holds refuses none = holds (sym (ap f is) ∙ none)
+unread_by f named (Err fault) is holds refuses none = refuses
+
+-- an action is not nothing
+pub never_none : (P : Type 0) (request : Result Action ArgsFault)
+    → IfOk request (λ a. ◌≡◌ {A = Option Action} (Some a) None → P)
+never_none P (Ok action) = λ none. absurd (cc)
+never_none P (Err fault) = tt
+
+-- a status other than 1 tells that the whole was written
 pub wrote_whole : (MayRun : Result Script ScriptFault → Answer → Type 0) (asked : Option Action)
-    (known before after : Option (List ℕ)) (answer : Answer) (status : ℕ) → MayAnswerBy MayRun asked known answer
-    → (status ≢ 1 → Appends before after answer.text × (status ≡ answer.status))
+    (known before after : Option (List ℕ)) (answer : Answer) (Flushed Failed : Type 0) (status : ℕ)
+    → MayAnswerBy MayRun asked known answer → IsWritten answer before after Flushed Failed status
     → status ≢ 1 → WroteWholeBy MayRun asked known before after status
-wrote_whole MayRun asked known before after answer status may whole other = record {
+wrote_whole MayRun asked known before after answer Flushed Failed status may (inl whole) other = record {
   answer = answer;
   may = may;
-  whole = (whole other).0;
-  ends = (whole other).1;
+  whole = whole.0;
+  ends = whole.2;
 }
+wrote_whole MayRun asked known before after answer Flushed Failed status may (inr failed) other =
+    absurd (other failed.1)

@@ -1,7 +1,7 @@
 // The answer of the program to each request.
 ghost use Rattle.std.specs.Prelude.{◌≡◌, ◌≢◌, length, IfOk, IfErr, Ok, Err, string_bytes};
 ghost use Rattle.txc_cmd_answer.specs.Answer.{answer_of, usage, faulty, ok_text, checked, reported, replayed};
-ghost use Rattle.txc_cmd_answer.specs.Answer.{status_of};
+ghost use Rattle.txc_cmd_answer.specs.Answer.{ComesOfAll, MayExplore, refused_by, status_of};
 ghost use Rattle.txc_cmd_report.specs.Outcome.{IsComplete, outcome_of};
 ghost use Rattle.txc_cmd_script.specs.Reading.{script_in};
 ghost use Rattle.txc_cmd_replay.specs.Rounds.{rounds, transaction_count};
@@ -9,9 +9,14 @@ ghost use Rattle.txc_cmd_replay.specs.Rounds.{rounds, transaction_count};
 use std::alloc::{AllocError, Global};
 use txc_base::Stop;
 use txc_chan::Append;
+use txc_cmd_explore::{ExploreFault, ends_status, ends_text, explore};
+use txc_cmd_io::ArgsFault;
 use txc_cmd_replay::replay;
 use txc_cmd_report::{Outcome, SeatEnd, Text, any_stalled, any_stopped, fault_line, report_text};
 use txc_cmd_script::{Script, ScriptFault, read_script};
+
+/// The most orders that `explore` visits.
+const MOST_ORDERS: u32 = 4_000_000;
 
 /// The program's whole output, and its exit status.
 #[derive(Debug, Drop)]
@@ -37,6 +42,16 @@ pub fn no_memory_answer() -> Answer
     Answer {
         text: Text::Fixed("fault: no memory\n"),
         status: 1,
+    }
+}
+
+/// Returns the answer to words that request nothing.
+pub fn refusal(fault: ArgsFault) -> Answer
+    ensures { answer_of result ≡ refused_by fault }
+{
+    match fault {
+        ArgsFault::Usage => usage_answer(),
+        ArgsFault::NoMemory => no_memory_answer(),
     }
 }
 
@@ -146,6 +161,43 @@ pub fn replay_answer<A: Append>(rt: &A, alloc: Global, bytes: Vec<u8>) -> Result
 {
     match read_owned(alloc, bytes) {
         Ok(script) => report_answer(rt, alloc, script).map_err(|_| AllocError),
+        Err(ScriptFault::NoMemory) => Err(AllocError),
+        Err(fault) => fault_answer(alloc, fault),
+    }
+}
+
+/// Explores every order of a script in this thread, and returns its ends, or the line of the fault that there are too
+/// many orders. Fails if allocation fails.
+fn explored_answer<A: Append>(rt: &A, alloc: Global, script: Script) -> Result<Answer, AllocError>
+    ensures { IfOk result (λ a. ComesOfAll script (answer_of a)) }
+{
+    match explore(rt, alloc, &script, MOST_ORDERS) {
+        Ok(found) => {
+            let text = ends_text(alloc, found.as_slice())?;
+            Ok(Answer {
+                text: Text::Made(text),
+                status: ends_status(found.as_slice()),
+            })
+        }
+        Err(ExploreFault::TooMany) => Ok(Answer {
+            text: Text::Fixed("fault: too many orders\n"),
+            status: 1,
+        }),
+        Err(ExploreFault::NoMemory) => Err(AllocError),
+    }
+}
+
+/// Returns the answer to `explore` of a script's text: the ends of all its orders, or the line of its first fault.
+/// Frees the text before it explores the script. Fails if allocation fails. `rt` writes to the broadcast channels.
+pub fn explore_answer<A: Append>(
+    rt: &A,
+    alloc: Global,
+    bytes: Vec<u8>,
+) -> Result<Answer, AllocError>
+    ensures { IfOk result (λ a. MayExplore (script_in bytes.items) (answer_of a)) }
+{
+    match read_owned(alloc, bytes) {
+        Ok(script) => explored_answer(rt, alloc, script),
         Err(ScriptFault::NoMemory) => Err(AllocError),
         Err(fault) => fault_answer(alloc, fault),
     }

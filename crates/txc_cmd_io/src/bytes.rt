@@ -1,10 +1,12 @@
 // Reads up to a limit from any reader, and writes a text to any writer.
-ghost use Rattle.std.specs.Prelude.{◌≡◌, ◌≢◌, ◌<◌, ◌≤◌, ◌++◌, ℕ, length, take, IfOk, IfErr, IfSome, IsTrue};
+ghost use Rattle.std.specs.Prelude.{◌≡◌, ◌≢◌, ◌<◌, ◌≤◌, ◌+◌, ◌++◌, ℕ, false, length, take, IfOk, IfErr, IfSome, IsTrue};
 ghost use Rattle.std.specs.Io.KnownBytes.{Consumes, Appends, IsAtEnd};
+ghost use Rattle.txc_cmd_io.specs.Bytes.{ConsumesAtMost};
 ghost use Rattle.txc_cmd_script.specs.Reading.{max_bytes};
 
+use crate::output::Output;
 use std::alloc::Global;
-use std::io::{Read, Write};
+use std::io::Read;
 use txc_cmd_script::{MAX_BYTES, ScriptFault};
 
 /// The maximum number of bytes of one read.
@@ -23,6 +25,7 @@ fn read_some<R: Read>(
         × Consumes (R.remaining reader.old) (R.remaining reader.new) more
         × (n ≡ 0 → IsAtEnd (R.remaining reader.new))) }
     ensures fault { IfErr result (λ e. e ≢ ScriptFault.NoMemory → e ≡ ScriptFault.ReadFailed) }
+    ensures most { ConsumesAtMost room (R.remaining reader.old) (R.remaining reader.new) }
 {
     let mut chunk = [0u8; CHUNK];
     let most = room.min(CHUNK);
@@ -34,7 +37,7 @@ fn read_some<R: Read>(
 
 /// Reads a reader to its end, and returns its bytes. Fails with `TooLarge` as soon as the reader has returned more
 /// bytes than a script can have. Fails with `ReadFailed` at any error of the reader, even an interrupted read, and with
-/// `NoMemory` if allocation fails.
+/// `NoMemory` if allocation fails. Reads at most 1,048,577 bytes.
 pub fn read_limited<R: Read>(alloc: Global, reader: &mut R) -> Result<Vec<u8>, ScriptFault>
     ensures ok { IfOk result (λ v. (length v.items ≤ max_bytes)
         × IfSome (R.remaining reader.old) (λ xs. v.items ≡ xs)) }
@@ -42,6 +45,7 @@ pub fn read_limited<R: Read>(alloc: Global, reader: &mut R) -> Result<Vec<u8>, S
         → IfSome (R.remaining reader.old) (λ xs. max_bytes < length xs)) }
     ensures only { IfErr result (λ e. e ≢ ScriptFault.NoMemory → e ≢ ScriptFault.ReadFailed
         → e ≡ ScriptFault.TooLarge) }
+    ensures most { ConsumesAtMost (max_bytes + 1) (R.remaining reader.old) (R.remaining reader.new) }
 {
     let mut bytes = Vec::new(alloc);
     while bytes.len() <= MAX_BYTES {
@@ -53,19 +57,21 @@ pub fn read_limited<R: Read>(alloc: Global, reader: &mut R) -> Result<Vec<u8>, S
     Err(ScriptFault::TooLarge)
 }
 
-/// Writes a text and flushes the writer. Returns `true` if all of the text was written. Returns `false` on a failed
-/// write, a write of zero bytes or a failed flush; part of the text can then have been written.
-pub fn write_text<W: Write>(writer: &mut W, text: &[u8]) -> bool
+/// Writes a text and then flushes the writer. Returns `true` if all of the text was written and the flush succeeded.
+/// Returns `false` only if a write failed, a write took no bytes or the flush failed; part of the text can then have
+/// been written.
+pub fn write_text<W: Output>(writer: &mut W, text: &[u8]) -> bool
     ensures all { IsTrue result → Appends (W.contents writer.old) (W.contents writer.new) text.now }
+    ensures flushed { IsTrue result → W.IsFlushed writer.new }
     ensures part { (n : ℕ) × Appends (W.contents writer.old) (W.contents writer.new) (take n text.now) }
+    ensures failed { result ≡ false → W.HasFailed writer.new }
 {
     let mut at = 0;
     while at < text.len() {
-        match writer.write(&text[at..]) {
-            Ok(0) => return false,
-            Ok(count) => at += count,
-            Err(_) => return false,
+        match writer.put(&text[at..]) {
+            0 => return false,
+            count => at += count,
         }
     }
-    writer.flush().is_ok()
+    writer.finish()
 }

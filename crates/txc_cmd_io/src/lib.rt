@@ -4,7 +4,9 @@
 #![tactic(auto)]
 
 mod bytes;
+mod output;
 mod words;
 
 pub use bytes::{read_limited, write_text};
+pub use output::Output;
 pub use words::{Action, ArgsFault, parse_args, read_args};

@@ -1,7 +1,7 @@
 // The words of the command line.
 ghost use Rattle.std.specs.Prelude.{◌≡◌, [], map, string_bytes, IfOk, IfErr, Some, None};
-ghost use Rattle.clap.specs.Words.{app_of, fault_of, subcommand_of, subcommand_rows_of, HasKind};
-ghost use Rattle.txc_cmd_io.specs.Words.{chanrun, no_subcommands, IsLeaf, action_named, action_in};
+ghost use Rattle.clap.specs.Words.{app_of, fault_of, kind_of, subcommand_of, subcommand_rows_of, HasKind};
+ghost use Rattle.txc_cmd_io.specs.Words.{chanrun, fault_by, no_subcommands, request_in, IsLeaf, action_named, action_in};
 
 use clap::error::ErrorKind;
 use clap::{ArgMatches, Command, Error};
@@ -16,6 +16,8 @@ pub enum Action {
     Check,
     /// Runs a script in one thread.
     Replay,
+    /// Explores every order of a script.
+    Explore,
     /// Runs a script with one thread per seat.
     Run,
 }
@@ -54,6 +56,7 @@ fn command_line<'a>(alloc: Global) -> Result<Command<'a>, AllocError>
     bare_command(alloc)
         .subcommand(leaf_command(alloc, "check"))?
         .subcommand(leaf_command(alloc, "replay"))?
+        .subcommand(leaf_command(alloc, "explore"))?
         .subcommand(leaf_command(alloc, "run"))
 }
 
@@ -73,8 +76,32 @@ fn read_action(name: &str) -> Option<Action>
     match name {
         "check" => Some(Action::Check),
         "replay" => Some(Action::Replay),
+        "explore" => Some(Action::Explore),
         "run" => Some(Action::Run),
         _ => None,
+    }
+}
+
+/// Returns the fault for an error of clap: `NoMemory` if its kind is that of a failed allocation, otherwise `Usage`.
+fn fault_for(error: &Error) -> ArgsFault
+    ensures { result ≡ fault_by (kind_of error.now) }
+{
+    match error.kind() {
+        ErrorKind::OutOfMemory => ArgsFault::NoMemory,
+        _ => ArgsFault::Usage,
+    }
+}
+
+/// Returns what the words request, by what clap found in them.
+fn read_request(found: Result<ArgMatches<'_>, Error>) -> Result<Action, ArgsFault>
+    ensures { result ≡ request_in found.entry }
+{
+    match found {
+        Ok(matches) => match matches.subcommand_name() {
+            Some(name) => read_action(name).ok_or(ArgsFault::Usage),
+            None => Err(ArgsFault::Usage),
+        },
+        Err(error) => Err(fault_for(&error)),
     }
 }
 
@@ -84,19 +111,7 @@ pub fn parse_args(alloc: Global, words: &[String]) -> Result<Action, ArgsFault>
     ensures ok { IfOk result (λ a. action_in (map string_bytes words.now) ≡ Some a) }
     ensures usage { IfErr result (λ e. e ≡ ArgsFault.Usage → action_in (map string_bytes words.now) ≡ None) }
 {
-    match find_matches(alloc, words) {
-        Ok(matches) => match matches.subcommand_name() {
-            Some(name) => match read_action(name) {
-                Some(action) => Ok(action),
-                None => Err(ArgsFault::Usage),
-            },
-            None => Err(ArgsFault::Usage),
-        },
-        Err(error) => match error.kind() {
-            ErrorKind::OutOfMemory => Err(ArgsFault::NoMemory),
-            _ => Err(ArgsFault::Usage),
-        },
-    }
+    read_request(find_matches(alloc, words))
 }
 
 /// Returns the words of the command line of this process. Returns no words, which are not a command either, if the

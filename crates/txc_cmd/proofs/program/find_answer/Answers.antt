@@ -1,23 +1,16 @@
-use Rattle.std.proofs.Common.{refl}
 use Rattle.std.proofs.lemmas.Result.{IfOk-weaker}
-use Rattle.txc_cmd_answer.proofs.AnswerLemmas.{as_asked, may_answer, may_fault}
+use Rattle.txc_cmd_answer.proofs.AnswerLemmas.{may_answer, may_fault}
 use Rattle.txc_cmd_answer.specs.Answer.{answer_of}
 use Rattle.txc_cmd.specs.Answer.{MayRun}
 use Rattle.txc_cmd.proofs.program.find_answer.Goals as goal
 
-pub returns-in-Ok-read_limited-clause-may : goal.returns-in-Ok-read_limited-clause-may
-returns-in-Ok-read_limited-clause-may g c = IfOk-weaker c.make_answer.result _ _ (λ a is.
-    as_asked MayRun _ _ _ (answer_of a) c.in-Ok.ensures.ok
-    (may_answer MayRun _ (answer_of a) c.in-Ok.action c.in-Ok-read_limited.bytes.items
-    c.in-Ok-read_limited.ensures.ok.1 is))
+pub returns-in-Ok-clause-may : goal.returns-in-Ok-clause-may
+returns-in-Ok-clause-may g c = IfOk-weaker c.make_answer.result _ _ (λ a is.
+    may_answer MayRun _ (answer_of a) c.args.action c.in-Ok.bytes.items c.in-Ok.ensures.ok.1 is)
     c.make_answer.ensures
 
 pub returns-in-Err-clause-may : goal.returns-in-Err-clause-may
 returns-in-Err-clause-may g c = IfOk-weaker c.fault_answer.result _ _ (λ a is.
-    as_asked MayRun _ _ _ (answer_of a) c.in-Ok.ensures.ok
-    (may_fault MayRun _ (answer_of a) c.in-Ok.action c.in-Err.fault (λ _ fault answer is'. is') is
-    c.in-Err.ensures.only c.in-Err.ensures.too_large))
+    may_fault MayRun _ (answer_of a) c.args.action c.in-Err.fault (λ _ fault answer is'. is') is
+    c.in-Err.ensures.only c.in-Err.ensures.too_large)
     c.fault_answer.ensures
-
-pub returns-in-Err-Usage-clause-unread : goal.returns-in-Err-Usage-clause-unread
-returns-in-Err-Usage-clause-unread g c = λ _. refl

@@ -4,14 +4,14 @@ use Rattle.txc_cmd_answer.proofs.AnswerLemmas.{may_answer, may_fault}
 use Rattle.txc_cmd_io.specs.declared.words.Action.TheVariants.{Replay}
 use Rattle.txc_cmd_answer.proofs.program.replay_reader.Goals as goal
 
-pub returns-in-Ok : goal.returns-in-Ok
-returns-in-Ok g c =
+pub returns-in-Ok-clause-may : goal.returns-in-Ok-clause-may
+returns-in-Ok-clause-may g c =
     IfOk-weaker c.replay_answer.result _ _
     (λ a is. may_answer NoRun _ (answer_of a) Replay c.in-Ok.bytes.items c.in-Ok.ensures.ok.1 is)
     c.replay_answer.ensures
 
-pub returns-in-Err : goal.returns-in-Err
-returns-in-Err g c =
+pub returns-in-Err-clause-may : goal.returns-in-Err-clause-may
+returns-in-Err-clause-may g c =
     IfOk-weaker c.fault_answer.result _ _
     (λ a is. may_fault NoRun _ (answer_of a) Replay c.in-Err.fault (λ e. cc) is c.in-Err.ensures.only
     c.in-Err.ensures.too_large)

@@ -19,6 +19,6 @@ rest_whole text i = rw (← length-drop i text) (take-length (drop i text))
 pub loop-at-preserved : goal.loop-at-preserved
 loop-at-preserved g c = record {
   within = grind (arith, common_steps);
-  written = Appends-add _ _ _ c.args.text.now c.loop-at.at c.in-Ok.count c.loop-at.invariant.written
-      (rw rest_whole at c.in-Ok.ensures.bytes);
+  written = Appends-add _ _ _ c.args.text.now c.loop-at.at c.put.result c.loop-at.invariant.written
+      (rw rest_whole at c.put.ensures.bytes);
 }

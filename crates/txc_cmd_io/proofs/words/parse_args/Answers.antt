@@ -1,22 +1,20 @@
-use Rattle.std.proofs.Common.{sym, ◌∙◌, map, string_bytes}
-use Rattle.txc_cmd_io.proofs.WordLemmas.{action_in-ok, action_in-err}
+use Rattle.std.proofs.Common.{sym, subst, map, string_bytes, Result, Some, None, IfOk, IfErr, ◌≡◌}
+use Rattle.txc_cmd_io.specs.declared.words.Action.{Action}
+use Rattle.txc_cmd_io.specs.declared.words.ArgsFault.{ArgsFault}
+use Rattle.txc_cmd_io.specs.declared.words.ArgsFault.TheVariants.{Usage}
+use Rattle.txc_cmd_io.specs.Words.{action_in}
+use Rattle.txc_cmd_io.proofs.WordLemmas.{request-ok, request-usage}
 use Rattle.txc_cmd_io.proofs.words.parse_args.Goals as goal
 
-pub returns-in-Some-read_action-clause-ok : goal.returns-in-Some-read_action-clause-ok
-returns-in-Some-read_action-clause-ok c =
-    let is = action_in-ok (map string_bytes c.args.words.now) c.in-Ok.matches c.in-Ok.ensures.ok.0
-    c.in-Ok.ensures.ok.1 in
-    is ∙ rw (← c.in-Some.ensures) (sym c.in-Some-read_action.ensures)
-
 pub returns : goal.returns
-returns c = record {
-  ok = tt;
-  usage = λ _. action_in-err (map string_bytes c.args.words.now) c.in-Err.error c.in-Err.ensures.err
-      (λ h. c.in_default.not-OutOfMemory (c.kind.ensures ∙ h));
-}
-
-pub returns-in-Some-clause-usage : goal.returns-in-Some-clause-usage
-returns-in-Some-clause-usage c =
-    let is = action_in-ok (map string_bytes c.args.words.now) c.in-Ok.matches c.in-Ok.ensures.ok.0
-    c.in-Ok.ensures.ok.1 in
-    λ _. is ∙ rw (← c.in-Some.ensures) (sym c.in-None-read_action.ensures)
+returns c =
+    let words = map string_bytes c.args.words.now in
+    let found = c.find_matches.result in
+    let ok = c.find_matches.ensures.ok in
+    let err = c.find_matches.ensures.err in
+    record {
+      ok = subst (λ (r : Result Action ArgsFault). IfOk r (λ a. action_in words ≡ Some a))
+          (sym c.read_request.ensures) (request-ok words found ok err);
+      usage = subst (λ (r : Result Action ArgsFault). IfErr r (λ e. e ≡ Usage → action_in words ≡ None))
+          (sym c.read_request.ensures) (request-usage words found ok err);
+    }
