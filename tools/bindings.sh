@@ -4,8 +4,9 @@
 # under the sanitizers and under helgrind; and the tests and examples of bindings/rust, the tests also under the address
 # sanitizer and with the feature `twin`, its waiting in every order of a few threads, the tests of bindings/rust/stream,
 # and an example with the library installed. Last it makes a release, unpacks it, and builds a program in C and one in
-# Rust from it, without the toolchain on the path.
-# The library is built first if it is missing or older than its sources. If `cc`, `cargo`, a sanitizer or futures-core
+# Rust from it, without the toolchain on the path. The library of crates/yalwythen_channel_c is tried by the programs of
+# bindings/core_tests only.
+# A library is built first if it is missing or older than its sources. If `cc`, `cargo`, a sanitizer or futures-core
 # is missing, a line says what was skipped.
 #
 # The last line is 'N passed, M failed'.
@@ -13,6 +14,7 @@ set -u
 cd "$(dirname "${BASH_SOURCE[0]}")/.." || exit 1
 
 library=crates/yalwythen_c/out/libyalwythen_c.a
+channel_library=crates/yalwythen_channel_c/out/libyalwythen_channel_c.a
 passed=0
 failed=0
 place=$(mktemp -d) || exit 1
@@ -24,15 +26,15 @@ fail() {
 }
 
 is_built() {
-  [ -f "$library" ] || return 1
-  [ -z "$(find crates.txt crates/*/{src,specs,proofs} -type f -newer "$library" -print -quit 2>/dev/null)" ]
+  [ -f "$1" ] || return 1
+  [ -z "$(find crates.txt crates/*/{src,specs,proofs} -type f -newer "$1" -print -quit 2>/dev/null)" ]
 }
 
-# Proves and builds the library: first the crates that it uses, in parallel, and then by `rt lib`.
+# Proves and builds the static library of a crate $1: first the crates that it uses, in parallel, and then by `rt lib`.
 build_library() {
   local uses
-  read -ra uses < <(sed -n 's/^yalwythen_c [^:]*: *//p' crates.txt)
-  tools/build.py --only "${uses[@]}" && (cd crates/yalwythen_c && rt lib) && touch "$library"
+  read -ra uses < <(sed -n "s/^$1 [^:]*: *//p" crates.txt)
+  tools/build.py --only "${uses[@]}" && (cd "crates/$1" && rt lib) && touch "crates/$1/out/lib$1.a"
 }
 
 # Builds the C library, installs it, and runs its examples and tests. Prints what they skipped.
@@ -49,6 +51,30 @@ try_c() {
   grep -v '^[0-9]* passed, \|^make' "$place/said"
   passed=$((passed + ours))
   failed=$((failed + theirs))
+}
+
+# Builds and runs a program $1 of bindings/core_tests, with the flags after it.
+try_core_test() {
+  local program=$1 said
+  shift
+  if said=$(cc -std=c99 -Wall -Wextra -Werror -pedantic "$@" -o "$place/$program" "bindings/core_tests/$program.c" \
+    "$channel_library" "$heap/liblibc_c.a" 2>&1 && timeout 300 "$place/$program" 2>&1) &&
+    [[ $said =~ ^[0-9]+\ checks$ ]]; then
+    passed=$((passed + 1))
+  else
+    fail "bindings/core_tests/$program.c: $said"
+  fi
+}
+
+# Calls each export of the core of channels without domains, also under the address sanitizer, which sees leaks.
+try_channel_core() {
+  local program
+  for program in channels transactions; do
+    try_core_test "$program" -O2
+    if cc -fsanitize=address -o "$place/empty" -x c - <<<'int main(void) { return 0; }' 2>/dev/null; then
+      try_core_test "$program" -O1 -g -fsanitize=address
+    fi
+  done
 }
 
 # Each example of the crate, with its arguments, and the last line that it prints.
@@ -203,14 +229,21 @@ try_rust() {
   try_release
 }
 
-# Without `cc` and `cargo` nothing is linked, so the library is not needed.
+# Without `cc` and `cargo` nothing is linked, so the libraries are not needed.
 if command -v cc >/dev/null || command -v cargo >/dev/null; then
-  if ! is_built; then
-    build_library >"$place/said" 2>&1 || { tail -n 40 "$place/said"; echo "0 passed, 1 failed"; exit 1; }
-  fi
+  for built in "$library" "$channel_library"; do
+    name=$(basename "$built" .a)
+    is_built "$built" || build_library "${name#lib}" >"$place/said" 2>&1 ||
+      { tail -n 40 "$place/said"; echo "0 passed, 1 failed"; exit 1; }
+  done
   heap=$(dirname "$(dirname "$(readlink -f "$(command -v rt)")")")/c
 fi
-if command -v cc >/dev/null; then try_c; else echo "bindings.sh: cc not found: skipped the programs in C"; fi
+if command -v cc >/dev/null; then
+  try_channel_core
+  try_c
+else
+  echo "bindings.sh: cc not found: skipped the programs in C"
+fi
 # Rust links by `cc` too.
 if command -v cc >/dev/null && command -v cargo >/dev/null; then
   try_rust

@@ -1,0 +1,10 @@
+pub mod AtOnce
+pub mod Consistency
+pub mod Endings
+pub mod JoiningChannels
+pub mod OneList
+pub mod OneMove
+pub mod OneOperation
+pub mod OpenTransaction
+pub mod RawSteps
+pub mod SingleStep

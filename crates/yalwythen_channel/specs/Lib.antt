@@ -1,0 +1,16 @@
+pub mod Accounts
+pub mod Channel
+pub mod Channels
+pub mod Ending
+pub mod OneList
+pub mod OneMove
+pub mod OneOperation
+pub mod Opened
+pub mod Opening
+pub mod RawSteps
+pub mod Requests
+pub mod Seats
+pub mod Single
+pub mod State
+pub mod Txn
+pub mod Written
