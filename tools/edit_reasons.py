@@ -1,6 +1,6 @@
 #!/usr/bin/env python3
-"""edit_reasons.py [--jobs N] CRATE..: says for each mutant of these crates why the checker rejects it, and reports those
-that may be rejected only because a proof that was written by hand does not fit. Run tools/edits.py first.
+"""edit_reasons.py [--jobs N] CRATE..: says for each mutant of these crates why the checker rejects it, and reports
+those that may be rejected only because a proof that was written by hand does not fit. Run tools/edits.py first.
 
 The proof of a function can be written by hand: a file Answers.antt or Proof.antt below proofs/. A wrong body that has
 such a proof is rejected if the proof names a value that changed, whatever the contract says. So here the answers of

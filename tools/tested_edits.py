@@ -1,9 +1,9 @@
 #!/usr/bin/env python3
-"""tested_edits.py [--times N] [CRATE..]: tries the mutants of all crates or of these that name a test, and reports those
-that the test does not see each time. ./test doesn't run it.
+"""tested_edits.py [--times N] [CRATE..]: tries the mutants of all crates or of these that name a test, and reports
+those that the test does not see each time. ./test doesn't run it.
 
-No contract can express what the mutants in crates/CRATE/tested/ change, such as a notification that is never sent. Of
-the others, those name a test of which tools/edit_reasons.py cannot say that a contract rejects them. A line `test: NAME PATH`
+No contract can express what the mutants in crates/CRATE/tested/ change, such as a notification that is never sent.
+Other mutants name a test if tools/edit_reasons.py cannot say that a contract rejects them. A line `test: NAME PATH`
 of a mutant names the test that sees it: the test PATH of tests/NAME, such as `times::a_notified_seat_returns`. With
 `test: NAME PATH REFUSE_THREAD=2`, tools/growths.c makes the start of the second thread fail. The test is compiled over
 the mutant without proofs, and run N times, ten by default. The mutant is seen if each run fails or hangs. A run has 20

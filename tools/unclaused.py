@@ -1,5 +1,5 @@
 #!/usr/bin/env python3
-"""unclaused.py: lists the public functions and methods of the libraries in crates/ without a clause `ensures`, by crate.
+"""unclaused.py: lists the public functions and methods of the libraries in crates/ without a clause `ensures`.
 unclaused.py --write: writes the list to docs/GUARANTEES.md. tools/pages.py compares it.
 
 A method of a trait counts if the trait declares it. The crates of tests and the programs have no part in it.
@@ -14,7 +14,8 @@ NAME = re.compile(r"^([a-z0-9_]+)[^:#]*:", re.MULTILINE)
 # A public function, or a method that a public trait declares, up to its body or its end.
 FUNCTION = re.compile(r"^( *)((?:pub )?)(?:const )?(?:unsafe )?(?:extern \"C\" )?fn (\w+)(.*?)(?:\{\n|\{\}|;\n)",
                       re.MULTILINE | re.DOTALL)
-BLOCK = re.compile(r"^(pub trait|(?:unsafe )?impl)\b(?:<(?:[^<>]|<[^<>]*>)*>)? *(?:[^{]*? for )?(?:&'?\w* ?)?(\w+)", re.MULTILINE)
+BLOCK = re.compile(r"^(pub trait|(?:unsafe )?impl)\b(?:<(?:[^<>]|<[^<>]*>)*>)? *(?:[^{]*? for )?(?:&'?\w* ?)?(\w+)",
+                   re.MULTILINE)
 CLAUSE = re.compile(r"^ *(?:ensures|ghost )", re.MULTILINE)
 LIST = re.compile(r"(These public calls have no clause:\n\n)(.*?)(\n\n)", re.DOTALL)
 LEFT_OUT = re.compile(r"_tests$|^example_|^chanrun")

@@ -30,8 +30,8 @@ abbrev pub AreStuck : ℕ → List ChanView → List (List CheckedView) → List
 AreStuck many helds seats left ends = (n : ℕ) (d : DepartedSeatView) → n < many
     → IsStuck helds (slice_index_or seats n []) (slice_index_or left n d).commits (slice_index_or ends n Finished)
 
--- the channels of a report on which each seat that stalled is stuck: each seat in this list is the one with that number,
--- has run the first of its transactions, one for each of its receipts, and ended so
+-- the channels of a report on which each seat that stalled is stuck: each seat in this list is the one with that
+-- number, has run the first of its transactions, one for each of its receipts, and ended so
 pub record AreStuckAtEnd (decls : List Decl) (seats : List (List CheckedView)) (left : List DepartedSeatView)
     (report : Report)
     (ends : List SeatEnd) : Type 0 where

@@ -27,9 +27,9 @@ pub record IsRanBy (left : List SeatCommits) (number : ℕ) (plans : List Checke
 abbrev pub AreRanBy : List SeatCommits → List (List CheckedView) → Type 0
 AreRanBy left seats = (n : ℕ) (plans : List CheckedView) → slice_get seats n ≡ Some plans → IsRanBy left n plans
 
--- the report is one serial history of these transactions of each seat on these channels: each seat has a receipt for each
--- of its transactions and no other receipt, and in this order, by stamp, seat and serial, one thread would have got each
--- receipt exactly, and left the channels as the accounts show them
+-- the report is one serial history of these transactions of each seat on these channels: each seat has a receipt for
+-- each of its transactions and no other receipt, and in this order, by stamp, seat and serial, one thread would have got
+-- each receipt exactly, and left the channels as the accounts show them
 pub record IsSerialHistory (decls : List Decl) (plans : List (List CheckedView)) (report : Report) : Type 0 where
   pub even : AreEven plans report.receipts
   pub order : List Event

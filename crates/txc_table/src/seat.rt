@@ -152,8 +152,8 @@ impl<K: Log, S: Receipts> Seat<K, S> {
     /// Proves what is true of every seat, and does nothing at run time. Its receipts have its number, and their serials
     /// are their numbers. In each receipt the places in one channel rise, and the stamps of the receipts rise. Each act
     /// is the entry at its place in what the seat has seen of the channel's log. Each transaction gave its receipt on
-    /// channels whose logs the seat has seen, and left each channel that it declares with the receipt's stamp. Each receipt
-    /// is of one transaction.
+    /// channels whose logs the seat has seen, and left each channel that it declares with the receipt's stamp. Each
+    /// receipt is of one transaction.
     pub fn show(&self)
         ensures own { AreReceiptsOf self.now.commits.number 0 self.now.commits.receipts }
         ensures stand { ReceiptsAreInLogs (seen_at self.now) self.now.commits.receipts }

@@ -10,8 +10,8 @@ use Rattle.txc_table.specs.Seat.{SeatView, log_at}
 use Rattle.txc_table.specs.Table.{TableView}
 use Rattle.txc_txn.specs.InLog.{Logs}
 
--- a session: the table, the seat with its receipts, what the seat has seen of the log of each channel, whether committed
--- transactions are noted, the noted ones in order, and the prepared ones
+-- a session: the table, the seat with its receipts, what the seat has seen of the log of each channel, whether
+-- committed transactions are noted, the noted ones in order, and the prepared ones
 pub record SessionView : Type 0 where
   pub table : TableView
   pub seat : SeatCommits
