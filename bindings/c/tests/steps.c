@@ -140,6 +140,20 @@ static void check_invalid_steps(void) {
     CHECK(is_step(many, 5, YALWYTHEN_REASON_STEP_CHANNELS, 4));
 }
 
+/* A transaction that is rolled back to a savepoint, and then as a whole. */
+static void check_rolled_back_twice(void) {
+    uint64_t before = length(queue);
+    size_t savepoint;
+    CHECK_OK(yalwythen_begin(domain));
+    CHECK_OK(yalwythen_apply(domain, on(YALWYTHEN_WRITE, queue, 20), NULL));
+    CHECK_OK(yalwythen_savepoint(domain, &savepoint));
+    CHECK_OK(yalwythen_apply(domain, on(YALWYTHEN_WRITE, queue, 21), NULL));
+    CHECK_OK(yalwythen_roll_back_to(domain, savepoint));
+    CHECK(length(queue) == before + 1);
+    CHECK_OK(yalwythen_roll_back(domain));
+    CHECK(length(queue) == before);
+}
+
 /* An open transaction with savepoints, committed and rolled back. */
 static void check_open(void) {
     yalwythen_reply reply;
@@ -184,6 +198,7 @@ int main(void) {
     check_states();
     check_alternatives();
     check_invalid_steps();
+    check_rolled_back_twice();
     check_open();
     yalwythen_domain_free(domain);
     printf("%lu checks\n", checks);

@@ -12,15 +12,16 @@ use Rattle.txc_txn_check.specs.declared.step.Step.TheVariants.{Do}
 use Rattle.txc_txn.specs.declared.open_savepoint.OpenSavepoint.{OpenSavepoint}
 use Rattle.txc_txn.specs.declared.open_transaction.OpenTransaction.{OpenTransaction}
 use Rattle.txc_txn.specs.declared.trace.Trace.{Trace}
+use Rattle.txc_txn.specs.Growth.{AllGrow, IsMarked}
 use Rattle.txc_txn.specs.Maps.{Map}
 use Rattle.txc_txn.specs.OpenTransaction.{IsMarkedSince}
 use Rattle.txc_txn.specs.Plain.{chan_in}
 use Rattle.txc_txn.specs.Run.{KeepsTrace, state_of}
 use Rattle.txc_txn.specs.Transaction.{Ending, Kept, Again, Aborted, State}
 use Rattle.txc_txn.specs.Transaction.{and_then, op_in, sequence, start, step_in, steps_in}
-use Rattle.txc_txn.proofs.Running.{step_in-Do}
+use Rattle.txc_txn.proofs.Running.{states_equal, step_in-Do}
 use Rattle.yalwythen_domain.specs.Channels.{DomainChannels}
-use Rattle.yalwythen_domain.specs.Opened.{IsOpenAt, IsSavedAt}
+use Rattle.yalwythen_domain.specs.Opened.{IsOpenAt, IsRolledBackTo, IsSavedAt, Precedes}
 
 -- where one step runs as this operation, it and nothing else is that operation
 then_nothing : (step ending : Ending) → step ≡ ending → and_then step (sequence []) ≡ ending
@@ -103,6 +104,72 @@ saved_here savepoint held kinds txn savepoints marked counts = record {
   replies = ap (λ n. take n txn.trace.replies.items) counts.1 ∙ take-length txn.trace.replies.items;
   deeds = ap (λ n. take n txn.trace.deeds.items) counts.2 ∙ take-length txn.trace.deeds.items;
 }
+
+-- a savepoint that was set before precedes where the open transaction is now
+pub precedes_now : (savepoint : OpenSavepoint) (at : Map) (trace : Trace) (c : DomainChannels)
+    → IsSavedAt savepoint at trace c → Precedes c.txn.tag at trace (chan_in c.held) c.txn.trace
+precedes_now savepoint at trace c saved = record {
+  grown = saved.marked.1.grows;
+  keeps = (
+    ap (λ n. take n c.txn.trace.replies.items) (sym saved.counts.0) ∙ saved.replies,
+    ap (λ n. take n c.txn.trace.deeds.items) (sym saved.counts.1) ∙ saved.deeds,
+  );
+}
+
+-- channels that are at a later mark again can still be undone to an earlier one
+marked_back : (tag : Tag) (touched marks marks' : List ℕ) (before at now : Map) → IsMarked tag touched marks before now
+    → IsMarked tag touched marks' at now → AllGrow tag before at → IsMarked tag touched marks before at
+marked_back tag touched marks marks' before at now one other grown = record {
+  made = one.made;
+  lawful = one.lawful;
+  others = λ n no. sym (other.others n no) ∙ one.others n no;
+  grows = grown;
+}
+
+-- the same of the marks of an open transaction
+since_back : (saved saved' : List ℕ) (txn txn' : OpenTransaction) (before at now now' : Map) → txn'.tag ≡ txn.tag
+    → txn'.touched ≡ txn.touched → txn'.marks ≡ txn.marks → now' ≡ at → IsMarkedSince saved txn before now
+    → IsMarkedSince saved' txn at now → AllGrow txn.tag before at → IsMarkedSince saved txn' before now'
+since_back saved saved' txn txn' before at now now' tag touched marks here one other grown =
+    subst (λ (m : Map). IsMarkedSince saved txn' before m) (sym here)
+    (rw (tag, touched, marks) (one.0, marked_back txn.tag txn.touched.items _ _ before at now one.1 other.1 grown))
+
+-- an open transaction that was rolled back to a savepoint
+pub rolled_back : (savepoint : OpenSavepoint) (c c' : DomainChannels)
+    → ((at : Map) → IsMarkedSince savepoint.marks.items c.txn at (chan_in c.held) → chan_in c'.held ≡ at)
+    → c'.txn.trace.last ≡ savepoint.last
+    → c'.txn.trace.replies.items ≡ take savepoint.replies c.txn.trace.replies.items
+    → c'.txn.trace.deeds.items ≡ take savepoint.deeds c.txn.trace.deeds.items
+    → (c'.txn.tag ≡ c.txn.tag) × (c'.txn.touched ≡ c.txn.touched) × (c'.txn.marks ≡ c.txn.marks)
+    → IsRolledBackTo savepoint c c'
+rolled_back savepoint c c' back last replies deeds rest = record {
+  back = λ at trace saved. (back at saved.marked, state_back at trace saved);
+  touched = (rest.1, rest.2);
+  marked = λ began at trace saved grown marked.
+      since_back [] savepoint.marks.items c.txn c'.txn began at (chan_in c.held) (chan_in c'.held) rest.0 rest.1 rest.2
+      (back at saved.marked) marked saved.marked grown;
+  goes_on = λ began at ops trace saved had marked. record {
+    runs = rw rest.0 (had.runs ∙ ap Kept (sym (states_equal (chan_in c'.held) at c'.txn.trace trace
+        (back at saved.marked) (last ∙ saved.last) (replies ∙ saved.replies) (deeds ∙ saved.deeds))));
+    marked = since_back [] savepoint.marks.items c.txn c'.txn began at (chan_in c.held) (chan_in c'.held) rest.0 rest.1
+        rest.2 (back at saved.marked) marked saved.marked had.grown;
+  };
+  saved = λ point at at' trace trace' saved' saved precedes. record {
+    marked = since_back point.marks.items savepoint.marks.items c.txn c'.txn at at' (chan_in c.held) (chan_in c'.held)
+        rest.0 rest.1 rest.2 (back at' saved'.marked) saved.marked saved'.marked precedes.grown;
+    last = saved.last;
+    counts = saved.counts;
+    replies = ap (take point.replies) (replies ∙ saved'.replies)
+        ∙ ap (λ n. take n trace'.replies.items) saved.counts.0 ∙ precedes.keeps.0;
+    deeds = ap (take point.deeds) (deeds ∙ saved'.deeds)
+        ∙ ap (λ n. take n trace'.deeds.items) saved.counts.1 ∙ precedes.keeps.1;
+  };
+}
+  where
+    state_back : (at : Map) (trace : Trace) → IsSavedAt savepoint at trace c
+        → state_of at c'.txn.trace ≡ state_of at trace
+    state_back at trace saved = states_equal at at c'.txn.trace trace refl (last ∙ saved.last) (replies ∙ saved.replies)
+        (deeds ∙ saved.deeds)
 
 -- two facts of what is well give a third one
 pub both_ok : {A E : Type 0} (result : Result A E) (P Q R : A → Type 0) → IfOk result P → IfOk result Q

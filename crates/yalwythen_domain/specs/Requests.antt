@@ -28,7 +28,7 @@ use Rattle.yalwythen_domain.specs.declared.call_result.CallResult.{CallResult}
 use Rattle.yalwythen_domain.specs.Channels.{DomainChannels}
 use Rattle.yalwythen_domain.specs.Domain.{DomainState}
 use Rattle.yalwythen_domain.specs.Ending.{RanInDomain, cause_code, response_of_run, seat_tag_after}
-use Rattle.yalwythen_domain.specs.Opened.{HasApplied, IfFaulty, IsOpenAt, IsSavedAt, untallied}
+use Rattle.yalwythen_domain.specs.Opened.{HasApplied, IfFaulty, IsOpenAt, IsRolledBackTo, IsSavedAt, Precedes, untallied}
 use Rattle.yalwythen_domain.specs.Opening.{closed_response, count_response, is_open, length_response, readers_response}
 use Rattle.yalwythen_domain.specs.Opening.{rejected_for, response_to_decl}
 use Rattle.yalwythen_domain.specs.RawSteps.{IsPlain, decls_with, last_reply, reply_response, response_of, steps_with}
@@ -132,6 +132,8 @@ pub record HasPoint (old : DomainChannels) (new : DomainChannels) : Type 0 where
   pub added : new.savepoints ≡ old.savepoints ++ savepoint ∷ []
   pub saved : (began : Map) → IsMarkedSince [] old.txn began (chan_in old.held)
       → IsSavedAt savepoint (chan_in old.held) old.txn.trace new
+  pub later : (point : OpenSavepoint) (at : Map) (trace : Trace) → IsSavedAt point at trace old
+      → Precedes old.txn.tag at trace (chan_in old.held) old.txn.trace
 
 -- a savepoint was set, and is the last one; or no transaction goes on, or allocation failed, and nothing changed
 pub record HasSaved (old : DomainState) (new : DomainState) (response : CallResult) : Type 0 where
@@ -145,14 +147,12 @@ pub record HasSaved (old : DomainState) (new : DomainState) (response : CallResu
       × (new.clock ≡ old.clock) × (new.last ≡ old.last)
 
 -- the open transaction is in the state of its last savepoint, which is removed
-pub record IsBackAt (savepoints : List OpenSavepoint) (savepoint : OpenSavepoint) (old : DomainState)
-    (new : DomainState)
+pub record IsBackAt (savepoints : List OpenSavepoint) (savepoint : OpenSavepoint) (old new : DomainState)
     (response : CallResult) : Type 0 where
   pub answered : response ≡ record { code = 0; value = length savepoints }
   pub left : new.channels.savepoints ≡ savepoints
   pub status : new.status ≡ Open
-  pub back : (at : Map) (trace : Trace) → IsSavedAt savepoint at trace old.channels
-      → (chan_in new.channels.held ≡ at) × (state_of at new.channels.txn.trace ≡ state_of at trace)
+  pub back : IsRolledBackTo savepoint old.channels new.channels
 
 -- the open transaction was rolled back to its last savepoint; or there is none, and nothing changed
 pub record HasGoneBack (old : DomainState) (new : DomainState) (response : CallResult) : Type 0 where

@@ -11,7 +11,7 @@ ghost use Rattle.txc_txn.specs.Maps.{Map, settle_all};
 ghost use Rattle.txc_txn.specs.OpenTransaction.{IsMarkedSince};
 ghost use Rattle.txc_txn.specs.Plain.{chan_in};
 ghost use Rattle.txc_txn.specs.Run.{receipt_of, state_of};
-ghost use Rattle.yalwythen_domain.specs.Opened.{HasApplied, IfFaulty, IsOpenAt, IsSavedAt, untallied};
+ghost use Rattle.yalwythen_domain.specs.Opened.{HasApplied, IfFaulty, IsOpenAt, IsRolledBackTo, IsSavedAt, untallied};
 ghost use Rattle.yalwythen_domain.specs.Requests.{HasPoint};
 
 use crate::channels::{Channels, NO_TAG, RunError};
@@ -98,9 +98,8 @@ impl<K: Log> Channels<K> {
         ensures done { (savepoints : List Points) (savepoint : Points) → self.old.savepoints ≡ savepoints
             ++ savepoint ∷ []
             → (result ≡ true) × (self.new.savepoints ≡ savepoints) }
-        ensures back { (savepoints : List Points) (savepoint : Points) (at : Map) (trace : Traces)
-            → self.old.savepoints ≡ savepoints ++ savepoint ∷ [] → IsSavedAt savepoint at trace self.old
-            → (chan_in self.new.held ≡ at) × (state_of at self.new.txn.trace ≡ state_of at trace) }
+        ensures back { (savepoints : List Points) (savepoint : Points) → self.old.savepoints ≡ savepoints
+            ++ savepoint ∷ [] → IsRolledBackTo savepoint self.old self.new }
         ensures none { self.old.savepoints ≡ [] → (result ≡ false) × (self.new ≡ self.old) }
         ensures rest { (self.new.kinds ≡ self.old.kinds) × (self.new.txn.tag ≡ self.old.txn.tag) }
     {

@@ -1,10 +1,10 @@
 // A script, checked or replayed from the caller's bytes.
-ghost use Rattle.std.specs.Prelude.{◌≡◌, ◌≢◌, ◌<◌, length, take, Ok};
+ghost use Rattle.std.specs.Prelude.{◌≡◌, ◌≢◌, length, take, Ok};
 ghost use Rattle.txc_cmd_script.specs.Reading.{script_in};
 ghost use Rattle.txc_cmd_script.specs.Script.{Script as Said};
 ghost use Rattle.txc_cmd_report.specs.Text.{text_of};
 ghost use Rattle.txc_cmd_replay.specs.Rounds.{rounds};
-ghost use Rattle.yalwythen_domain.specs.Codes.{code_in};
+ghost use Rattle.yalwythen_domain.specs.Codes.{code_in, fitted, replayed};
 ghost use Rattle.yalwythen_domain.specs.Opening.{has_broadcast};
 
 use std::alloc::Global;
@@ -62,17 +62,17 @@ pub fn check(alloc: Global, script: &[u8]) -> CheckResult
 
 /// Returns a code, with length 0.
 fn refused(code: u64) -> ReplayResult
-    ensures { result.code ≡ code }
+    ensures { result ≡ record { code = code; length = 0 } }
 {
     ReplayResult { code, length: 0 }
 }
 
 /// Writes a text to the front of the caller's bytes, if it fits. Returns its length, with code 0, or with code 14 if it
-/// does not fit.
+/// does not fit; the bytes are then unchanged.
 fn copy_text(text: &[u8], out: &mut [u8]) -> ReplayResult
-    ensures fits { result.code ≡ 0 → result.length ≡ length text.now }
+    ensures fitted { result ≡ fitted text.now (length out.old) }
     ensures text { result.code ≡ 0 → take result.length out.new ≡ text.now }
-    ensures code { result.code < 14 → result.code ≡ 0 }
+    ensures unchanged { result.code ≢ 0 → out.new ≡ out.old }
 {
     let length = text.len();
     if length > out.len() {
@@ -97,11 +97,13 @@ fn has_broadcast(decls: &[Decl]) -> bool
 
 /// Replays a script in JSON in one thread, and writes its report to the front of `out`. Returns code 0 with the
 /// report's length, or the code of the script's first fault; code 12 if an allocation fails, 13 if a channel is a
-/// broadcast, and 14 with the report's length if the report doesn't fit.
+/// broadcast, and 14 with the report's length if the report doesn't fit. Unless the code is 0, `out` is unchanged.
 pub fn replay(alloc: Global, script: &[u8], out: &mut [u8]) -> ReplayResult
+    ensures replayed { result.code ≢ 12 → result ≡ replayed (script_in script.now) (length out.old) }
+    ensures memory { result.code ≡ 12 → result.length ≡ 0 }
     ensures report { result.code ≡ 0 → (parsed : Said) → script_in script.now ≡ Ok parsed
         → take result.length out.new ≡ text_of (rounds parsed) }
-    ensures code { result.code < 12 → result.code ≡ code_in (script_in script.now) }
+    ensures unchanged { result.code ≢ 0 → out.new ≡ out.old }
 {
     let script = match read_script(alloc, script) {
         Ok(script) => script,
