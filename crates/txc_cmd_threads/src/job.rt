@@ -5,12 +5,13 @@ ghost use Rattle.txc_txn_check.specs.contracts.checked.Checked as checked;
 ghost use Rattle.txc_cmd_threads.specs.Pool.{CanRun, SeatHasRun};
 ghost use denote.Param.Send.{IsSync};
 
+use crate::gate::Gate;
 use crate::worker::serve;
 use std::alloc::Global;
 use std::sync::Wait;
 use txc_base_threads::{Task, show_shared};
 use txc_cmd_report::SeatEnd;
-use txc_table::{DepartedSeat, Gate, Seat, Table};
+use txc_table::{DepartedSeat, Seat, Table};
 use txc_txn_check::Checked;
 
 /// A seat before its thread runs its transactions. If the job is dropped unperformed, the seat leaves the table.

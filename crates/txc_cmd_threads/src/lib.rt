@@ -6,12 +6,13 @@
 
 mod closing;
 mod final_tries;
+mod gate;
 mod job;
 mod pool;
 mod run;
 mod run_fault;
 mod worker;
 
+pub use gate::Gate;
 pub use run::{run_gated, run_threads};
 pub use run_fault::RunFault;
-pub use txc_table::Gate;

@@ -7,6 +7,7 @@ ghost use Rattle.txc_base_threads.specs.Postcondition.{AllRelated};
 ghost use Rattle.txc_cmd_threads.specs.Pool.{AreAllResults, AreUnzipped, HasServed};
 ghost use Rattle.txc_cmd_threads.specs.Ran.{IsNotTorn};
 
+use crate::gate::Gate;
 use crate::job::{Job, JobResult, show_shared_plans};
 use crate::run_fault::RunFault;
 use std::alloc::Global;
@@ -14,7 +15,7 @@ use std::sync::Wait;
 use std::thread::Threads;
 use txc_base_threads::{StartError, Task, run_all};
 use txc_cmd_report::SeatEnd;
-use txc_table::{DepartedSeat, Gate, Seat, Table};
+use txc_table::{DepartedSeat, Seat, Table};
 use txc_txn_check::Checked;
 
 /// The data that all threads share.

@@ -3,6 +3,7 @@ ghost use Rattle.std.specs.Prelude.{◌≡◌, IfOk, IfErr, length, vec_len};
 ghost use Rattle.txc_cmd_threads.specs.Ran.{IsRan, IsNotTorn};
 
 use crate::closing::close;
+use crate::gate::Gate;
 use crate::pool::{Pool, work_all};
 use crate::run_fault::RunFault;
 use std::alloc::Global;
@@ -11,7 +12,7 @@ use std::thread::Threads;
 use txc_chan::FullLog;
 use txc_cmd_report::Outcome;
 use txc_cmd_script::Script;
-use txc_table::{AllReceipts, Gate, Table};
+use txc_table::{AllReceipts, Table};
 
 /// A gate that does nothing.
 #[derive(Drop)]

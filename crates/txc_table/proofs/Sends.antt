@@ -16,6 +16,7 @@ use Rattle.txc_table_seat.proofs.Sends.{history_sends, receipt_field_sends}
 use Rattle.txc_table_seat.specs.declared.receipts.Receipts as receipts
 use Rattle.txc_table_lines.proofs.Sends.{lines_sync, seat_shares_send}
 use Rattle.txc_table.specs.contracts.departed_seat.DepartedSeat as left
+use Rattle.txc_table.specs.contracts.line_access.LineAccess as access
 use Rattle.txc_table.specs.contracts.table_seats.TableSeats as table_seats
 use Rattle.txc_table.specs.contracts.seat.Seat as seat
 use Rattle.txc_table.specs.contracts.shelves.Shelves as shelves
@@ -47,6 +48,11 @@ module _ (K : RattleType) (log : keep.Ghosts K.Denot) (log_sends : IsSend K) whe
       (struct_sync (shape (shelves.TheInside.the_type K log))
       (Vec-sync (option.the_row shelf.the_row) (search (shelf_syncs, sendable) depth 20), (search crosses, tt))))
 
+  access_sends : IsSend (access.the_field K log).row
+  access_sends =
+      let shares = seat_shares_send K log in
+      search sendable depth 20
+
   module _ (S : RattleType) (receipts : receipts.Ghosts S.Denot) (receipts_send : IsSend S) where
     -- a seat may go to any thread
     pub seat_sends : IsSend (seat.the_row K S log receipts)
@@ -57,7 +63,7 @@ module _ (K : RattleType) (log : keep.Ghosts K.Denot) (log_sends : IsSend K) whe
         (struct_send (shape (seat.TheInside.the_type K S log receipts)) (
           history_sends S receipts receipts_send,
           (
-            seat_shares_send K log,
+            access_sends,
             (share.the_send, (search (receipt_field_sends, crosses, sendable) depth 30, tt)),
           ),
         )))
@@ -69,7 +75,8 @@ module _ (K : RattleType) (log : keep.Ghosts K.Denot) (log_sends : IsSend K) whe
         (recorded_send (left.TheInside.the_field K S log receipts).row _ _
         (left.TheInside.the_type K S log receipts).to_one
         (struct_send (shape (left.TheInside.the_type K S log receipts))
-        (history_sends S receipts receipts_send, (seat_shares_send K log, (share.the_send, tt)))))
+        (history_sends S receipts receipts_send,
+        (seat_shares_send K log, (search sendable depth 20, (share.the_send, tt))))))
 
   -- any thread may share a table
   pub table_syncs : IsSync (table.the_row K log)

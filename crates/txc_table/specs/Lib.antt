@@ -9,3 +9,4 @@ pub mod Finished
 pub mod Refused
 pub mod Closing
 pub mod IdleTableView
+pub mod Gate

@@ -2,7 +2,7 @@
 use std::marker::Model;
 use txc_base_ledger::Share;
 use txc_chan::{FullLog, Log};
-use txc_table_lines::SeatShares;
+use txc_table_lines::{LockPermit, SeatShares};
 use txc_table_seat::{AllReceipts, History, Receipts};
 
 /// A seat that has left its table, with its receipts. `K` and `S` are those of the table's logs and the seat's
@@ -11,6 +11,7 @@ use txc_table_seat::{AllReceipts, History, Receipts};
 pub struct DepartedSeat<K: Log = FullLog, S: Receipts = AllReceipts> {
     pub(crate) history: History<S>,
     pub(crate) shares: SeatShares<K>,
+    pub(crate) permit: LockPermit,
     // Only for proofs: the seat's part of its table's own ledger.
     pub(crate) table_share: Share,
 }

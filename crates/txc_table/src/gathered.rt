@@ -106,6 +106,7 @@ pub(crate) fn gather<K: Log, S: Receipts>(
         let DepartedSeat {
             history,
             mut shares,
+            permit: _,
             table_share,
         } = remove_seat(&mut left, number);
         locked.show_known(&mut shares);
@@ -119,6 +120,7 @@ pub(crate) fn gather<K: Log, S: Receipts>(
         let DepartedSeat {
             history: _,
             shares: _,
+            permit: _,
             table_share,
         } = seat;
         parts.merge(table_share);

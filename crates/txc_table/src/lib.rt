@@ -11,6 +11,7 @@ mod departed_seat;
 mod finish_fault;
 mod gate;
 mod gathered;
+mod line_access;
 mod making;
 mod seat;
 mod shelves;
@@ -20,9 +21,9 @@ mod tried;
 
 pub use departed_seat::DepartedSeat;
 pub use finish_fault::FinishFault;
-pub use gate::Gate;
 pub use seat::Seat;
 pub use table::{IdleTable, Table};
 pub use tried::{Ended, Tried};
+pub use txc_table_lines::{Gate, HeldLocks};
 pub use txc_table_report::{Limits, TableFault};
 pub use txc_table_seat::{AllReceipts, LastReceipt, Receipts};

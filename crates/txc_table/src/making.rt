@@ -6,13 +6,14 @@ ghost use Rattle.txc_table_lines.specs.Lines.{fresh_share};
 ghost use Rattle.txc_table.specs.Seat.{AreNewHistories, new_seats};
 ghost use Rattle.txc_table.specs.Table.{shelved_for, table_lines};
 
+use crate::line_access::LineAccess;
 use crate::seat::Seat;
 use crate::shelves::Shelves;
 use crate::table_seats::TableSeats;
 use std::alloc::{AllocError, Global};
 use txc_base_ledger::Ledger;
 use txc_chan::{Chan, Decl, Log};
-use txc_table_lines::{Lines, SeatShares, open};
+use txc_table_lines::{Lines, LockPermits, SeatShares, open};
 use txc_table_seat::{History, PaddedReceipt, Receipts};
 
 /// Makes these channels, with their shelves. Returns `AllocError` if a declaration is invalid or an allocation fails.
@@ -40,19 +41,20 @@ pub(crate) fn make_chans<K: Log>(
     Ok((chans, shelves))
 }
 
-/// Makes the lines of a new table of these channels, to which the shelves belong, and what each of its seats has of
-/// them. Returns `AllocError` if an allocation fails. Allocates.
+/// Makes the lines of a new table of these channels, to which the shelves belong, what each of its seats has of them, and
+/// the permits of the seats. Returns `AllocError` if an allocation fails. Allocates.
 pub(crate) fn make_lines<K: Log>(
     alloc: Global,
     chans: Vec<Chan<K>>,
     shelves: &Shelves<K>,
     seats: u16,
-) -> Result<(Lines<K>, Vec<SeatShares<K>>), AllocError>
+) -> Result<(Lines<K>, (Vec<SeatShares<K>>, LockPermits)), AllocError>
     requires theirs { shelves.now ≡ chans.items }
     requires made { All (λ held. held.logged ≡ opened held.logged.decl) chans.items }
     ensures lines { IfOk result (λ made. map (λ line. line.decl) made.0 ≡ map (λ held. held.logged.decl) chans.items) }
     ensures ledgers { IfOk result (λ made. All (λ line. line.ledgers.seats ≡ seats) made.0) }
-    ensures seats { IfOk result (λ made. made.1.items ≡ replicate seats (map fresh_share made.0)) }
+    ensures seats { IfOk result (λ made. made.1.0.items ≡ replicate seats (map fresh_share made.0)) }
+    ensures permits { IfOk result (λ made. made.1.1 ≡ seats) }
 {
     // Only for the proof: the shelves belong to these channels.
     let _theirs = shelves;
@@ -87,21 +89,22 @@ pub(crate) fn make_drafts(alloc: Global, seats: u16) -> Result<Vec<Box<PaddedRec
     Ok(made)
 }
 
-/// Makes the seats of a new table with these lines in this room, from their histories, their drafts and what a new seat
-/// has of each line: they are numbered from 0, have no receipts and have seen no entry. Returns how many seats the
-/// table has, with the seats.
+/// Makes the seats of a new table with these lines in this room, from their histories, their drafts, what a new seat has
+/// of each line, and the permits: they are numbered from 0, have no receipts and have seen no entry. Returns how many
+/// seats the table has, with the seats.
 pub(crate) fn make_seats<K: Log, S: Receipts>(
     lines: &Lines<K>,
     histories: Vec<History<S>>,
     drafts: Vec<Box<PaddedReceipt>>,
     room: Vec<Seat<K, S>>,
-    shares: Vec<SeatShares<K>>,
+    access: (Vec<SeatShares<K>>, LockPermits),
 ) -> (TableSeats, Vec<Seat<K, S>>)
     requires new { AreNewHistories 0 (length lines.now) histories.items }
     requires few { length histories.items ≤ u16.MAX }
     requires empty { room.items ≡ [] }
     requires room { length histories.items ≤ vec_capacity room }
-    requires fresh { shares.items ≡ replicate (length histories.items) (map fresh_share lines.now) }
+    requires fresh { access.0.items ≡ replicate (length histories.items) (map fresh_share lines.now) }
+    requires permits { access.1 ≡ length histories.items }
     requires drafts { length drafts.items ≡ length histories.items }
     ensures seats { result.0.seats ≡ length histories.items }
     ensures made { result.1.items ≡ new_seats (table_lines result.0 lines.now) (length histories.items) }
@@ -113,16 +116,18 @@ pub(crate) fn make_seats<K: Log, S: Receipts>(
     let (_ledger, mut share) = Ledger::new(u64::from(count));
     let table_seats = TableSeats::new(count, &share);
     let mut made = room;
-    let mut shares = shares;
+    let (mut shares, mut permits) = access;
     let mut drafts = drafts;
     for history in histories {
         let Some(draft) = drafts.pop() else {
             unreachable!()
         };
-        match shares.pop() {
-            Some(own) => made.push_reserved(Seat::new(history, draft, own, share.split_off(1, 0))),
-            None => unreachable!(),
-        }
+        let Some(shares) = shares.pop() else {
+            unreachable!()
+        };
+        let permit = permits.take();
+        let access = LineAccess { shares, permit };
+        made.push_reserved(Seat::new(history, draft, access, share.split_off(1, 0)));
     }
     (table_seats, made)
 }

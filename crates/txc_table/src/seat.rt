@@ -9,11 +9,11 @@ ghost use Rattle.txc_table_lines.specs.Lines.{fresh_share, line_ids};
 ghost use Rattle.txc_table.specs.Seat.{AllPlaced, new_seat, seen_at};
 
 use crate::departed_seat::DepartedSeat;
+use crate::line_access::LineAccess;
 use std::alloc::Global;
 use std::marker::Model;
 use txc_base_ledger::Share;
 use txc_chan::{FullLog, Log};
-use txc_table_lines::SeatShares;
 use txc_table_seat::{AllReceipts, History, PaddedReceipt, Receipts};
 use txc_txn::Receipt;
 
@@ -22,7 +22,7 @@ use txc_txn::Receipt;
 /// or only the last one.
 pub struct Seat<K: Log = FullLog, S: Receipts = AllReceipts> {
     pub(crate) history: History<S>,
-    pub(crate) shares: SeatShares<K>,
+    pub(crate) access: LineAccess<K>,
     // Only for proofs: the seat's part of its table's own ledger.
     pub(crate) table_share: Share,
     // Where the next receipt is written. Its memory is that of a receipt that is no longer read.
@@ -42,38 +42,38 @@ impl<K: Log, S: Receipts> Model for Seat<K, S> {
 
     ghost view = { λ seat. record {
       commits = seat.history.commits;
-      lines = record { ledger = seat.table_share.name; seats = seat.table_share.whole; all = line_ids seat.shares };
-      seen = seen_in seat.shares;
+      lines = record { ledger = seat.table_share.name; seats = seat.table_share.whole; all = line_ids seat.access.shares };
+      seen = seen_in seat.access.shares;
     } };
 
-    ghost invariant = { λ seat. IsSeated seat.shares seat.history.commits seat.history.channels
+    ghost invariant = { λ seat. IsSeated seat.access.shares seat.history.commits seat.history.channels
         seat.table_share.parts };
 }
 
 impl<K: Log, S: Receipts> Seat<K, S> {
     /// Creates a seat that has seen no entry, from a history without receipts, a draft, what a new seat has of each
-    /// line, and a part of the table's own ledger.
+    /// line and its permit, and a part of the table's own ledger.
     pub(crate) fn new(
         history: History<S>,
         draft: Box<PaddedReceipt>,
-        shares: SeatShares<K>,
+        access: LineAccess<K>,
         table_share: Share,
     ) -> Seat<K, S>
         requires new { history.commits ≡ no_commits history.commits.number }
-        requires each { history.channels ≡ length shares }
-        requires fresh { shares ≡ map fresh_share (line_ids shares) }
+        requires each { history.channels ≡ length access.shares }
+        requires fresh { access.shares ≡ map fresh_share (line_ids access.shares) }
         requires part { table_share.parts ≡ 1 }
         ensures { result ≡ new_seat (record {
           ledger = table_share.name;
           seats = table_share.whole;
           all = line_ids
-              shares;
+              access.shares;
         })
             history.commits.number }
     {
         Seat {
             history,
-            shares,
+            access,
             table_share,
             draft,
         }
@@ -86,13 +86,15 @@ impl<K: Log, S: Receipts> Seat<K, S> {
     {
         let Seat {
             history,
-            shares,
+            access,
             table_share,
             draft: _,
         } = self;
+        let LineAccess { shares, permit } = access;
         DepartedSeat {
             history,
             shares,
+            permit,
             table_share,
         }
     }
@@ -172,7 +174,7 @@ impl<K: Log, S: Receipts> Seat<K, S> {
         ensures { length (seen_at self.now chan) ≤ length (seen_at other.now chan)
             → IsPrefix (seen_at self.now chan) (seen_at other.now chan) }
     {
-        self.shares.show_order(&other.shares, chan);
+        self.access.shares.show_order(&other.access.shares, chan);
     }
 }
 

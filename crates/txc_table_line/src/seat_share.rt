@@ -10,13 +10,10 @@ ghost use Rattle.txc_table_line.specs.SeatShare.{IsValidShare};
 
 use crate::ledger_shares::LedgerShares;
 use crate::line_chan::LineChan;
-use crate::line_guard::LineGuard;
-use crate::line_lock::LineLock;
 use crate::mark::Mark;
 use crate::snapshot_kind::SnapshotKind;
 use std::marker::Model;
 use std::snapshot::Snapshot;
-use std::sync::Wait;
 use txc_base::{Entry, Stop, Tag};
 use txc_base_ghost::ListPrefix;
 use txc_chan::Log;
@@ -152,24 +149,6 @@ impl<K: Log> SeatShare<K> {
         ensures { length self.now.log ≤ length other.now.log → IsPrefix self.now.log other.now.log }
     {
         self.seen.show_order(&other.seen);
-    }
-
-    /// Locks the line and returns a snapshot of its channel. The seat has then seen the log. Returns `NoMemory` if an
-    /// allocation fails, and no other error; the share is then unchanged. It blocks while another thread has the lock.
-    pub fn take_snapshot<T: SnapshotKind<K>, R: Wait>(
-        &mut self,
-        rt: &R,
-        lock: &LineLock<K>,
-    ) -> Result<T::Output, Stop>
-        requires { self.old.line ≡ lock.now.label.value.line }
-        ensures ok { IfOk result (IsSnapshotOf T.snapshot_of self.old.line.decl self.old.amount self.new.log) }
-        ensures grew { IsPrefix self.old.log self.new.log }
-        ensures err { IfErr result (λ stop. stop ≡ Stop.NoMemory) }
-        ensures rest { (self.new.line ≡ self.old.line) × (self.new.amount ≡ self.old.amount)
-            × (self.new.made ≡ self.old.made) × (self.new.marks ≡ self.old.marks) }
-        ensures unchanged { OnErr result (self.new ≡ self.old) }
-    {
-        LineGuard::take(rt, lock, 0, self).take_snapshot::<T>(self)
     }
 
     /// Returns a snapshot of the channel, in which nothing may be left to undo. The seat has then seen the log. Returns

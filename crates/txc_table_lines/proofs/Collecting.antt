@@ -47,14 +47,6 @@ clean_at (c ∷ cs) zero are below = are 0 missing (omega arith)
 clean_at (c ∷ cs) (suc n) are below =
     clean_at cs n (λ k d lt. are (suc k) d (omega (arith, lt))) (omega (arith, below))
 
--- .. if that is so for each number, it is so for all
-pub clean_all : (now : List LineChanView) → ((n : ℕ) → n < length now → (channel_at now n).held.logged.pending ≡ 0)
-    → AreClean (helds_of now)
-clean_all [] each k d below = absurd (omega (arith, below))
-clean_all (c ∷ cs) each zero d below = each 0 (omega arith)
-clean_all (c ∷ cs) each (suc k) d below =
-    clean_all cs (λ n lt. each (suc n) (omega (arith, lt))) k d (omega (arith, below))
-
 line_of_channel : (now : List LineChanView) (n : ℕ)
     → slice_index_or (lines_of now) n no_channel.line ≡ (channel_at now n).line
 line_of_channel [] n = refl

@@ -17,3 +17,4 @@ pub mod Retrying
 pub mod Gaining
 pub mod Ending
 pub mod Sends
+pub mod Rising

@@ -1,4 +1,5 @@
 pub mod Lines
+pub mod LockOrder
 pub mod Guards
 pub mod Committed
 pub mod OneOperation

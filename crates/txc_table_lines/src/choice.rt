@@ -8,8 +8,8 @@ ghost use Rattle.txc_table_lines.specs.Choice.{FirstWaits, IsCommittedChoice, Is
 ghost use Rattle.txc_table_lines.specs.Guards.{IsFound};
 ghost use Rattle.txc_table_lines.specs.Lines.{line_ids, share_at};
 
-use crate::guards::{TRIES, take_line};
-use crate::lines::Lines;
+use crate::guards::TRIES;
+use crate::lines::LockOrder;
 use crate::one_operation::AtOnce;
 use crate::seat_shares::SeatShares;
 use crate::two_operations::{take_both, take_item};
@@ -47,19 +47,20 @@ struct ChosenLines<'a, K: Log> {
     unread: LineGuard<'a, K>,
 }
 
-/// Locks the three lines of a choice in rising order, so that no two threads wait for each other. Returns the two that
-/// can be read, the first one first, and the one that is written to. It blocks while another thread has one of the
-/// locks, and does not allocate.
+/// Locks the three lines of a choice in rising order. Returns the two that can be read, the first one first, and the one
+/// that is written to. It blocks while another thread has one of the locks, and does not allocate.
 fn take_three<'a, R: Wait, K: Log>(
     rt: &R,
-    lines: &'a Lines<K>,
+    order: &mut LockOrder<'a, K>,
     what: Choice,
     shares: &mut SeatShares<K>,
 ) -> (LineGuard<'a, K>, LineGuard<'a, K>, LineGuard<'a, K>)
-    requires of { line_ids shares.old ≡ lines.now }
-    requires first { what.first < length lines.now }
-    requires second { what.second < length lines.now }
-    requires to { what.to < length lines.now }
+    requires of { line_ids shares.old ≡ order.old.lines }
+    requires none { order.old.lowest ≡ 0 }
+    requires apart { (what.first ≢ what.second) × (what.first ≢ what.to) × (what.second ≢ what.to) }
+    requires first { what.first < length order.old.lines }
+    requires second { what.second < length order.old.lines }
+    requires to { what.to < length order.old.lines }
     ensures first { IsFound (share_at shares.old what.first) result.0 }
     ensures second { IsFound (share_at shares.old what.second) result.1 }
     ensures target { IsFound (share_at shares.old what.to) result.2 }
@@ -72,24 +73,24 @@ fn take_three<'a, R: Wait, K: Log>(
         ..
     } = what;
     if to < one && to < other {
-        let target = take_line(rt, lines, to, TRIES, shares);
-        let (first, second) = take_both(rt, lines, one, other, shares);
+        let target = order.take_line(rt, to, TRIES, shares);
+        let (first, second) = take_both(rt, order, one, other, shares);
         return (first, second, target);
     }
     if to > one && to > other {
-        let (first, second) = take_both(rt, lines, one, other, shares);
-        let target = take_line(rt, lines, to, TRIES, shares);
+        let (first, second) = take_both(rt, order, one, other, shares);
+        let target = order.take_line(rt, to, TRIES, shares);
         return (first, second, target);
     }
     if one < other {
-        let first = take_line(rt, lines, one, TRIES, shares);
-        let target = take_line(rt, lines, to, TRIES, shares);
-        let second = take_line(rt, lines, other, TRIES, shares);
+        let first = order.take_line(rt, one, TRIES, shares);
+        let target = order.take_line(rt, to, TRIES, shares);
+        let second = order.take_line(rt, other, TRIES, shares);
         return (first, second, target);
     }
-    let second = take_line(rt, lines, other, TRIES, shares);
-    let target = take_line(rt, lines, to, TRIES, shares);
-    let first = take_line(rt, lines, one, TRIES, shares);
+    let second = order.take_line(rt, other, TRIES, shares);
+    let target = order.take_line(rt, to, TRIES, shares);
+    let first = order.take_line(rt, one, TRIES, shares);
     (first, second, target)
 }
 
@@ -143,16 +144,17 @@ impl<K: Log> SeatShares<K> {
     pub fn commit_choice<R: Wait>(
         &mut self,
         rt: &R,
-        lines: &Lines<K>,
+        mut order: LockOrder<'_, K>,
         tag: Tag,
         what: Choice,
         receipt: &mut Receipt,
     ) -> Result<AtOnce, AllocError>
-        requires of { line_ids self.old ≡ lines.now }
+        requires of { line_ids self.old ≡ order.lines }
+        requires none { order.lowest ≡ 0 }
         requires apart { (what.first ≢ what.second) × (what.first ≢ what.to) × (what.second ≢ what.to) }
-        requires first { what.first < length lines.now }
-        requires second { what.second < length lines.now }
-        requires to { what.to < length lines.now }
+        requires first { what.first < length order.lines }
+        requires second { what.second < length order.lines }
+        requires to { what.to < length order.lines }
         requires reads_first { supports (share_at self.old what.first).line.decl.kind
             (Read what.first what.first_reader) ≡ true }
         requires reads_second { supports (share_at self.old what.second).line.decl.kind
@@ -170,7 +172,7 @@ impl<K: Log> SeatShares<K> {
     {
         receipt.make_pair()?;
         self.show();
-        let (first, second, mut target) = take_three(rt, lines, what, self);
+        let (first, second, mut target) = take_three(rt, &mut order, what, self);
         let ChosenLines {
             is_first,
             from,

@@ -10,10 +10,11 @@ ghost use Rattle.txc_txn.specs.Run.{IfKept, PlacesRise, RanSettled};
 ghost use Rattle.txc_txn.specs.Transaction.{Aborted, kept_tag, transaction};
 ghost use Rattle.txc_table_line.specs.LineChan.{no_channel};
 ghost use Rattle.txc_table_lines.specs.Committed.{AreCommitted, AreSettled, HasNoneOutside, IfRetry, SettledAt};
-ghost use Rattle.txc_table_lines.specs.Guards.{IsReady, ChangesAt, IsFound, chans_of, first_place_of};
+ghost use Rattle.txc_table_lines.specs.Guards.{IsReady, ChangesAt, chans_of, first_place_of};
 ghost use Rattle.txc_table_lines.specs.Lines.{AreSince, OnlyGrew, line_ids, share_at};
 
-use crate::lines::Lines;
+use crate::gate::{Gate, HeldLocks};
+use crate::lines::LockOrder;
 use crate::seat_shares::SeatShares;
 use arrayvec::ArrayVec;
 use std::marker::Model;
@@ -53,57 +54,44 @@ impl<'a, K: Log> Model for Guards<'a, K> {
     ghost invariant = { λ guards. AreLocked guards.known.value guards.declared.now guards.locked.items };
 }
 
-/// Locks the line with this number. It blocks while another thread has the lock.
-pub(crate) fn take_line<'a, R: Wait, K: Log>(
-    rt: &R,
-    lines: &'a Lines<K>,
-    number: u16,
-    tries: u32,
-    shares: &mut SeatShares<K>,
-) -> LineGuard<'a, K>
-    requires of { line_ids shares.old ≡ lines.now }
-    requires there { number < length lines.now }
-    ensures found { IsFound (share_at shares.old number) result }
-    ensures same { shares.new ≡ shares.old }
-{
-    let number = usize::from(number);
-    let share = &mut shares.shares[number];
-    share.show();
-    LineGuard::take(rt, &lines.locks[number], tries, share)
-}
-
 impl<'a, K: Log> Guards<'a, K> {
-    /// Locks the declared lines, one after another. The numbers should rise, so that no two threads wait for each
-    /// other. It blocks while another thread has one of the locks.
-    pub fn take<R: Wait>(
+    /// Locks the declared lines, whose numbers must rise, one after another, and then calls the gate once. It blocks
+    /// while another thread has one of the locks, and while the gate does.
+    pub fn take<R: Wait, G: Gate>(
         rt: &R,
-        lines: &'a Lines<K>,
+        mut order: LockOrder<'a, K>,
         declared: &'a [u16],
         shares: &mut SeatShares<K>,
+        gate: &mut G,
     ) -> Guards<'a, K>
-        requires of { line_ids shares.old ≡ lines.now }
-        requires there { All (λ n. n < length lines.now) declared.now }
+        requires of { line_ids shares.old ≡ order.lines }
+        requires first { order.lowest ≡ 0 }
+        requires there { All (λ n. n < length order.lines) declared.now }
+        requires rising { IsRising declared.now }
         requires few { length declared.now ≤ max_declared }
         ensures declared { result.declared ≡ declared.now }
         ensures seat { result.known ≡ shares.old }
-        ensures known { (n : ℕ) → n < length lines.now
+        ensures known { (n : ℕ) → n < length order.entry.lines
             → IsKnown (share_at shares.old n).line.decl (share_at shares.old n).amount (chans_of result n) }
         ensures since { AreSince shares.old (chans_of result) }
         ensures clean { (n : ℕ) → (chans_of result n).pending ≡ 0 }
+        ensures passed { G.HasPassed gate.old gate.new }
         ensures same { shares.new ≡ shares.old }
     {
         let tries = if declared.len() > 1 { TRIES } else { 0 };
         let known = Snapshot::of(shares);
         let mut locked = ArrayVec::new();
         for number in declared {
-            locked.push(Some(take_line(rt, lines, *number, tries, shares)));
+            locked.push(Some(order.take_line(rt, *number, tries, shares)));
         }
         shares.show();
-        Guards {
+        let guards = Guards {
             declared,
             locked,
             known,
-        }
+        };
+        gate.pass(&HeldLocks::of(&guards));
+        guards
     }
 
     /// Returns the place of a declared line among the declared ones.

@@ -7,10 +7,12 @@
 mod accounts;
 mod choice;
 mod collected_shares;
+mod gate;
 mod guards;
 mod hold;
 mod lines;
 mod lock_buffer;
+mod lock_permit;
 mod locked_hold;
 mod locked_lines;
 mod one_operation;
@@ -20,9 +22,11 @@ mod two_operations;
 
 pub use choice::Choice;
 pub use collected_shares::CollectedShares;
+pub use gate::{Gate, HeldLocks};
 pub use guards::Guards;
-pub use lines::Lines;
+pub use lines::{Lines, LockOrder};
 pub use lock_buffer::LockBuffer;
+pub use lock_permit::{LockPermit, LockPermits};
 pub use locked_lines::LockedLines;
 pub use one_operation::AtOnce;
 pub use opening::open;

@@ -1,14 +1,19 @@
 // The locks of a table's lines.
-ghost use Rattle.std.specs.Prelude.{◌≡◌, length};
+ghost use Rattle.std.specs.Prelude.{◌≡◌, length, map};
 
 use std::marker::Model;
 use txc_chan::Log;
 use txc_table_line::LineLock;
 
-/// The lines of a table, each under a lock of its own. In a contract it is the list of them.
+mod lock_order;
+
+pub use lock_order::LockOrder;
+
+/// The lines of a table, each under a lock of its own. Only a `LockOrder` locks some of them. In a contract it is the
+/// list of them.
 #[derive(Drop)]
 pub struct Lines<K: Log> {
-    pub(crate) locks: Vec<LineLock<K>>,
+    locks: Vec<LineLock<K>>,
 }
 
 impl<K: Log> Model for Lines<K> {
@@ -21,6 +26,20 @@ impl<K: Log> Model for Lines<K> {
 }
 
 impl<K: Log> Lines<K> {
+    /// Makes the lines of a table with these locks.
+    pub(crate) fn new(locks: Vec<LineLock<K>>) -> Lines<K>
+        ensures { result ≡ map (λ lock. lock.label.value.line) locks.items }
+    {
+        Lines { locks }
+    }
+
+    /// Returns the locks. The table then has no lines.
+    pub(crate) fn into_locks(self) -> Vec<LineLock<K>>
+        ensures { map (λ lock. lock.label.value.line) result.items ≡ self }
+    {
+        self.locks
+    }
+
     /// Returns how many lines there are.
     pub fn len(&self) -> usize
         ensures { result ≡ length self.now }

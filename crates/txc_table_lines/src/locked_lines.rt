@@ -1,6 +1,5 @@
 // The lines of a table, all locked.
 ghost use Rattle.std.specs.Prelude.{◌≡◌, ◌≢◌, ◌<◌, ◌≤◌, ℕ, length, slice_set, Contains, IfErr, IfNone, IfOk, IfSome};
-ghost use Rattle.std.specs.Prelude.{OnErr};
 ghost use Rattle.txc_txn_check.specs.Steps.{Fits};
 ghost use Rattle.txc_table_line.specs.Marks.{AreMarks};
 ghost use Rattle.txc_txn.specs.Maps.{kinds_of};
@@ -18,7 +17,7 @@ use std::sync::Wait;
 use txc_base::{Cause, Stop, Tag};
 use txc_chan::Log;
 use txc_table_line::{LineLock, LockedLine};
-use txc_txn::{Checked, Ran, Receipt, run_pending};
+use txc_txn::{Checked, Marks, Ran, Receipt, mark_all, run_pending, undo_all};
 
 /// The lines of a table, all locked until this is unlocked or dropped. In a contract it is the list of their channels.
 #[derive(Drop)]
@@ -49,7 +48,7 @@ impl<K: Log> Lines<K> {
         ensures lines { lines_of result ≡ self }
         ensures clean { AreClean (helds_of result) }
     {
-        let Lines { mut locks } = self;
+        let mut locks = self.into_locks();
         let LockBuffer { mut lines } = room;
         locks.reverse();
         while let Some(lock) = locks.pop() {
@@ -76,7 +75,7 @@ impl<K: Log> LockedLines<K> {
                 None => unreachable!(),
             }
         }
-        (Lines { locks }, LockBuffer { lines })
+        (Lines::new(locks), LockBuffer { lines })
     }
 
     /// Returns how many lines there are.
@@ -84,29 +83,6 @@ impl<K: Log> LockedLines<K> {
         ensures value { result ≡ length self.now }
     {
         self.lines.len()
-    }
-
-    /// Undoes all entries that can be undone in one of the channels.
-    fn clean_line(&mut self, at: usize)
-        requires { at < length self.old }
-        ensures clean { (channel_at self.new at).held.logged.pending ≡ 0 }
-        ensures others { self.new ≡ slice_set self.old at (channel_at self.new at) }
-        ensures line { lines_of self.new ≡ lines_of self.old }
-    {
-        match &mut self.lines.as_mut_slice()[at] {
-            Some(line) => line.clean(),
-            None => unreachable!(),
-        }
-    }
-
-    /// Undoes all entries that can be undone.
-    fn clean(&mut self)
-        ensures clean { AreClean (helds_of self.new) }
-        ensures lines { lines_of self.new ≡ lines_of self.old }
-    {
-        for at in 0..self.len() {
-            self.clean_line(at);
-        }
     }
 
     /// Shows that the marks of one of the channels are those of the channel. Does nothing at run time.
@@ -164,8 +140,9 @@ impl<K: Log> LockedLines<K> {
     }
 
     /// Tries a transaction on the channels without committing it. Returns the cause for which it must be retried, or
-    /// `None` if it would commit; an error is that of `run_pending`. The channels, in which nothing may be left to
-    /// undo, have the same logs afterwards. It blocks only if the handle permits it, on a broadcast channel.
+    /// `None` if it would commit; an error is that of `run_pending`. Nothing may be left to undo in the channels. They
+    /// are unchanged afterwards, with their logs and stamps. It blocks only if the handle permits it, on a broadcast
+    /// channel.
     pub fn cause_to_retry<R: Wait>(
         &mut self,
         rt: &R,
@@ -183,15 +160,16 @@ impl<K: Log> LockedLines<K> {
             tag checked.now.declared checked.now.steps ≡ Keeps state))) }
         ensures stopped { IfErr result (λ stop. stop ≢ Stop.NoMemory → transaction (chan_in (helds_of self.old)) tag
             checked.now.declared checked.now.steps ≡ Aborted stop) }
-        ensures same { IfOk result (λ found. IfSome found (λ cause.
-            chan_in (helds_of self.new) ≡ chan_in (helds_of self.old))) }
-        ensures untouched { OnErr result (chan_in (helds_of self.new) ≡ chan_in (helds_of self.old)) }
+        ensures same { chan_in (helds_of self.new) ≡ chan_in (helds_of self.old) }
         ensures lines { lines_of self.new ≡ lines_of self.old }
     {
+        checked.show();
+        let mut marks = Marks::new();
+        mark_all(self, checked.declared(), &mut marks);
         match run_pending(rt, recycled, self, tag, checked)? {
             Ran::Kept(receipt) => {
                 drop(receipt);
-                self.clean();
+                undo_all(self, checked.declared(), marks.as_slice());
                 Ok(None)
             }
             Ran::Retry(cause) => Ok(Some(cause)),

@@ -9,8 +9,7 @@ ghost use Rattle.txc_table_line.specs.Commit.{CountsOne};
 ghost use Rattle.txc_table_lines.specs.Lines.{line_ids, share_at};
 ghost use Rattle.txc_table_lines.specs.OneOperation.{IsCommittedOne, IsNotImmediate, MustRetryOne};
 
-use crate::guards::take_line;
-use crate::lines::Lines;
+use crate::lines::LockOrder;
 use crate::seat_shares::SeatShares;
 use std::alloc::AllocError;
 use std::sync::Wait;
@@ -89,12 +88,13 @@ impl<K: Log> SeatShares<K> {
     pub fn commit_one<R: Wait>(
         &mut self,
         rt: &R,
-        lines: &Lines<K>,
+        mut order: LockOrder<'_, K>,
         op: &Op,
         receipt: &mut Receipt,
     ) -> Result<AtOnce, AllocError>
-        requires of { line_ids self.old ≡ lines.now }
-        requires there { chan_of op.now < length lines.now }
+        requires of { line_ids self.old ≡ order.lines }
+        requires none { order.lowest ≡ 0 }
+        requires there { chan_of op.now < length order.lines }
         requires supports { supports (share_at self.old (chan_of op.now)).line.decl.kind op.now ≡ true }
         ensures done { IfOk result (λ is. is ≡ AtOnce.Committed
             → IsCommittedOne receipt.old.tag op.now self.old self.new receipt.new) }
@@ -109,7 +109,7 @@ impl<K: Log> SeatShares<K> {
         receipt.make_single()?;
         self.show();
         let chan = op.chan();
-        let mut guard = take_line(rt, lines, chan, 0, self);
+        let mut guard = order.take_line(rt, chan, 0, self);
         let (stamp, place) = guard.stamp_and_len();
         let most = receipt.tag.stamp.max(stamp);
         let Some(tag) = tag_after(receipt.tag, most) else {

@@ -4,6 +4,7 @@ ghost use Rattle.txc_chan.specs.Logged.{opened};
 ghost use Rattle.txc_table_lines.specs.Lines.{fresh_share};
 
 use crate::lines::Lines;
+use crate::lock_permit::LockPermits;
 use crate::seat_shares::SeatShares;
 use std::alloc::{AllocError, Global};
 use txc_chan::{Chan, Log};
@@ -31,17 +32,18 @@ fn add_line<K: Log>(
     channel.into_lock(alloc)
 }
 
-/// Makes the lines of a new table of these channels, which are as they were made, and the shares that each of `seats`
-/// seats has of them. Returns `AllocError` if an allocation fails.
+/// Makes the lines of a new table of these channels, which are as they were made, the shares that each of `count` seats
+/// has of them, and the permits of the seats. Returns `AllocError` if an allocation fails.
 pub fn open<K: Log>(
     alloc: Global,
     chans: Vec<Chan<K>>,
     count: u16,
-) -> Result<(Lines<K>, Vec<SeatShares<K>>), AllocError>
+) -> Result<(Lines<K>, (Vec<SeatShares<K>>, LockPermits)), AllocError>
     requires { All (λ held. held.logged ≡ opened held.logged.decl) chans.items }
     ensures lines { IfOk result (λ made. map (λ line. line.decl) made.0 ≡ map (λ held. held.logged.decl) chans.items) }
     ensures ledgers { IfOk result (λ made. All (λ line. line.ledgers.seats ≡ count) made.0) }
-    ensures seats { IfOk result (λ made. made.1.items ≡ replicate count (map fresh_share made.0)) }
+    ensures seats { IfOk result (λ made. made.1.0.items ≡ replicate count (map fresh_share made.0)) }
+    ensures permits { IfOk result (λ made. made.1.1 ≡ count) }
 {
     let mut locks = Vec::new(alloc);
     let mut seats = Vec::new(alloc);
@@ -51,5 +53,5 @@ pub fn open<K: Log>(
     for chan in chans {
         locks.push(add_line(alloc, chan, &mut seats, count)?)?;
     }
-    Ok((Lines { locks }, seats))
+    Ok((Lines::new(locks), (seats, LockPermits::new(count))))
 }

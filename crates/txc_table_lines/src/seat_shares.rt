@@ -4,13 +4,13 @@ ghost use mathlib.Core.List.{IsPrefix};
 ghost use Rattle.txc_table_line.specs.Account.{IsSnapshotOf};
 ghost use Rattle.txc_table_lines.specs.Lines.{AreValidShares, OnlyGrew, line_ids, share_at};
 
-use crate::lines::Lines;
+use crate::lines::LockOrder;
 use std::alloc::{AllocError, Global};
 use std::marker::Model;
 use std::sync::Wait;
 use txc_base::Stop;
 use txc_chan::Log;
-use txc_table_line::{SeatShare, SnapshotKind};
+use txc_table_line::{LineGuard, SeatShare, SnapshotKind};
 
 /// What a seat has of each line of a table. In a contract it is the list of it.
 #[derive(Drop)]
@@ -69,17 +69,16 @@ impl<K: Log> SeatShares<K> {
         self.shares[chan].show_order(&other.shares[chan]);
     }
 
-    /// Locks a line and returns a snapshot of its channel. The seat has then seen the log of that channel, and what it
-    /// has of the other lines is unchanged. Returns `NoMemory` if an allocation fails, and no other error; all is then
-    /// unchanged. It blocks while another thread has the lock.
-    pub fn take_snapshot<T: SnapshotKind<K>, R: Wait>(
+    /// Returns a snapshot of the channel of a locked line, in which nothing may be left to undo. The seat has then seen
+    /// the log of that channel. Returns `NoMemory` if an allocation fails, and no other error; all is then unchanged.
+    fn take_snapshot_of<T: SnapshotKind<K>>(
         &mut self,
-        rt: &R,
-        lines: &Lines<K>,
+        line: &mut LineGuard<'_, K>,
         chan: u16,
     ) -> Result<T::Output, Stop>
-        requires of { line_ids self.old ≡ lines.now }
-        requires there { chan < length lines.now }
+        requires there { chan < length self.old }
+        requires line { line.old.line ≡ (share_at self.old chan).line }
+        requires clean { line.old.held.logged.pending ≡ 0 }
         ensures ok { IfOk result
             (IsSnapshotOf T.snapshot_of (share_at self.old chan).line.decl (share_at self.old chan).amount
             (share_at self.new chan).log) }
@@ -92,10 +91,37 @@ impl<K: Log> SeatShares<K> {
         ensures lines { line_ids self.new ≡ line_ids self.old }
         ensures unchanged { OnErr result (self.new ≡ self.old) }
     {
-        let chan = usize::from(chan);
-        let share = &mut self.shares[chan];
-        let snapshot = share.take_snapshot::<T, R>(rt, &lines.locks[chan]);
+        let share = &mut self.shares[usize::from(chan)];
+        let snapshot = line.take_snapshot::<T>(share);
         share.show();
         snapshot
+    }
+
+    /// Locks a line and returns a snapshot of its channel. The seat has then seen the log of that channel, and what it
+    /// has of the other lines is unchanged. Returns `NoMemory` if an allocation fails, and no other error; all is then
+    /// unchanged. It blocks while another thread has the lock.
+    pub fn take_snapshot<T: SnapshotKind<K>, R: Wait>(
+        &mut self,
+        rt: &R,
+        mut order: LockOrder<'_, K>,
+        chan: u16,
+    ) -> Result<T::Output, Stop>
+        requires of { line_ids self.old ≡ order.lines }
+        requires none { order.lowest ≡ 0 }
+        requires there { chan < length order.lines }
+        ensures ok { IfOk result
+            (IsSnapshotOf T.snapshot_of (share_at self.old chan).line.decl (share_at self.old chan).amount
+            (share_at self.new chan).log) }
+        ensures grew { OnlyGrew self.old self.new }
+        ensures err { IfErr result (λ stop. stop ≡ Stop.NoMemory) }
+        ensures rest { (n : ℕ) → ((share_at self.new n).line ≡ (share_at self.old n).line)
+            × ((share_at self.new n).amount ≡ (share_at self.old n).amount)
+            × ((share_at self.new n).made ≡ (share_at self.old n).made)
+            × ((share_at self.new n).marks ≡ (share_at self.old n).marks) }
+        ensures lines { line_ids self.new ≡ line_ids self.old }
+        ensures unchanged { OnErr result (self.new ≡ self.old) }
+    {
+        let mut line = order.take_line(rt, chan, 0, self);
+        self.take_snapshot_of::<T>(&mut line, chan)
     }
 }

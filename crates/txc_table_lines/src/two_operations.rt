@@ -1,5 +1,5 @@
 // A transaction that moves an item from one line to another one.
-ghost use Rattle.std.specs.Prelude.{◌≡◌, ◌≢◌, ◌<◌, None, true, length, slice_set, IfErr, IfOk, OnErr};
+ghost use Rattle.std.specs.Prelude.{◌≡◌, ◌≢◌, ◌<◌, ◌≤◌, ℕ, None, true, length, slice_set, IfErr, IfOk, OnErr};
 ghost use Rattle.txc_base.specs.declared.cause.Cause.{Cause as Causes};
 ghost use Rattle.txc_base.specs.declared.item.Item.{Item as Items};
 ghost use Rattle.txc_base.specs.declared.op.Op.TheVariants.{Read, Write};
@@ -13,8 +13,8 @@ ghost use Rattle.txc_table_lines.specs.Guards.{IsFound, IsReady};
 ghost use Rattle.txc_table_lines.specs.Lines.{line_ids, share_at};
 ghost use Rattle.txc_table_lines.specs.TwoOperations.{IsCommittedMove, IsNoMove, MustRetryMove};
 
-use crate::guards::{TRIES, take_line};
-use crate::lines::Lines;
+use crate::guards::TRIES;
+use crate::lines::LockOrder;
 use crate::one_operation::{AtOnce, without_act};
 use crate::seat_shares::SeatShares;
 use std::alloc::AllocError;
@@ -35,30 +35,33 @@ pub struct Move {
     pub to: u16,
 }
 
-/// Locks two lines, the lower one first, so that no two threads wait for each other. Returns them in the order of their
-/// numbers here. It blocks while another thread has one of the locks, and does not allocate.
+/// Locks two lines, the lower one first. Returns them in the order of their numbers here. It blocks while another thread
+/// has one of the locks, and does not allocate.
 #[inline(always)]
 pub(crate) fn take_both<'a, R: Wait, K: Log>(
     rt: &R,
-    lines: &'a Lines<K>,
+    order: &mut LockOrder<'a, K>,
     one: u16,
     other: u16,
     shares: &mut SeatShares<K>,
 ) -> (LineGuard<'a, K>, LineGuard<'a, K>)
-    requires of { line_ids shares.old ≡ lines.now }
-    requires one { one < length lines.now }
-    requires other { other < length lines.now }
+    requires of { line_ids shares.old ≡ order.old.lines }
+    requires apart { one ≢ other }
+    requires one { (one < length order.old.lines) × (order.old.lowest ≤ one) }
+    requires other { (other < length order.old.lines) × (order.old.lowest ≤ other) }
     ensures one { IsFound (share_at shares.old one) result.0 }
     ensures other { IsFound (share_at shares.old other) result.1 }
+    ensures next { (n : ℕ) → one < n → other < n → order.new.lowest ≤ n }
+    ensures lines { order.new.lines ≡ order.old.lines }
     ensures same { shares.new ≡ shares.old }
 {
     if one < other {
-        let first = take_line(rt, lines, one, TRIES, shares);
-        let second = take_line(rt, lines, other, TRIES, shares);
+        let first = order.take_line(rt, one, TRIES, shares);
+        let second = order.take_line(rt, other, TRIES, shares);
         return (first, second);
     }
-    let second = take_line(rt, lines, other, TRIES, shares);
-    let first = take_line(rt, lines, one, TRIES, shares);
+    let second = order.take_line(rt, other, TRIES, shares);
+    let first = order.take_line(rt, one, TRIES, shares);
     (first, second)
 }
 
@@ -132,15 +135,16 @@ impl<K: Log> SeatShares<K> {
     pub fn commit_move<R: Wait>(
         &mut self,
         rt: &R,
-        lines: &Lines<K>,
+        mut order: LockOrder<'_, K>,
         tag: Tag,
         what: Move,
         receipt: &mut Receipt,
     ) -> Result<AtOnce, AllocError>
-        requires of { line_ids self.old ≡ lines.now }
+        requires of { line_ids self.old ≡ order.lines }
+        requires none { order.lowest ≡ 0 }
         requires apart { what.from ≢ what.to }
-        requires from { what.from < length lines.now }
-        requires to { what.to < length lines.now }
+        requires from { what.from < length order.lines }
+        requires to { what.to < length order.lines }
         requires reads { supports (share_at self.old what.from).line.decl.kind (Read what.from what.reader) ≡ true }
         requires writes { supports (share_at self.old what.to).line.decl.kind (Write what.to Last) ≡ true }
         ensures done { IfOk result (λ is. is ≡ AtOnce.Committed
@@ -157,7 +161,7 @@ impl<K: Log> SeatShares<K> {
         let Move { from, reader, to } = what;
         receipt.make_pair()?;
         self.show();
-        let (mut source, mut target) = take_both(rt, lines, from, to, self);
+        let (mut source, mut target) = take_both(rt, &mut order, from, to, self);
         let most = tag.stamp.max(source.stamp()).max(target.stamp());
         let Some(tag) = tag_after(tag, most) else {
             return Ok(AtOnce::NotDone);

@@ -16,11 +16,13 @@ ghost use Rattle.txc_table_lines.specs.Committed.{IfRetry};
 ghost use Rattle.txc_table_lines.specs.Lines.{line_ids};
 ghost use Rattle.txc_table_lines.specs.OneOperation.{AreKnown, IsNotImmediate};
 ghost use Rattle.txc_table.specs.Attempt.{IsKeptWith, ran_of};
+ghost use Rattle.txc_table.specs.Gate.{IfGiven};
 ghost use Rattle.txc_table.specs.Table.{decls_of};
 ghost use Rattle.txc_table.specs.Outcome.{Answers, IsAttempted};
 
 use super::Table;
-use crate::gate::{Gate, NoGate};
+use crate::gate::NoGate;
+use crate::line_access::LineAccess;
 use crate::seat::Seat;
 use crate::tried::Tried;
 use std::alloc::{AllocError, Global};
@@ -29,7 +31,7 @@ use std::sync::Wait;
 use txc_base::{Cause, Stop};
 use txc_chan::Log;
 use txc_table_interests::changed_by;
-use txc_table_lines::{AtOnce, Guards, SeatShares};
+use txc_table_lines::{AtOnce, Gate, Guards, LockOrder, LockPermit, SeatShares};
 use txc_table_seat::Receipts;
 use txc_table_wait::Seats;
 use txc_txn::{Checked, Ran, Receipt};
@@ -54,6 +56,7 @@ impl<K: Log> Table<K> {
         rt: &R,
         call: &Call<'_>,
         shares: &mut SeatShares<K>,
+        permit: &mut LockPermit,
         receipt: &mut Receipt,
     ) -> Result<AtOnce, AllocError>
         requires of { line_ids shares.old ≡ self.now.lines.all }
@@ -81,7 +84,8 @@ impl<K: Log> Table<K> {
         checked.show_fits(self.kinds.as_slice());
         checked.show();
         shares.show();
-        shares.commit_one(rt, &self.lines, op, receipt)
+        let order = LockOrder::new(&self.lines, permit);
+        shares.commit_one(rt, order, op, receipt)
     }
 
     /// Runs a transaction on its channels: at once if it can and there is no gate, and else as `run_held` does. The
@@ -92,36 +96,38 @@ impl<K: Log> Table<K> {
         &self,
         rt: &R,
         call: &Call<'_>,
-        shares: &mut SeatShares<K>,
+        access: &mut LineAccess<K>,
         gate: Option<&mut G>,
         receipt: &mut Receipt,
     ) -> Result<Option<Cause>, Stop>
-        requires of { line_ids shares.old ≡ self.now.lines.all }
+        requires of { line_ids access.old.shares ≡ self.now.lines.all }
         requires fits { Fits (slice_get self.now.kinds) call.now.checked.now.steps }
-        ensures outcome { let plan = call.now.checked.now in IfOk result (λ ended. (m : Map) × AreKnown shares.old m
-            × Answers (kept_tag m receipt.old.tag plan.declared)
+        ensures outcome { let plan = call.now.checked.now in IfOk result (λ ended. (m : Map)
+            × AreKnown access.old.shares m × Answers (kept_tag m receipt.old.tag plan.declared)
             (transaction m receipt.old.tag plan.declared plan.steps) (ran_of ended receipt.new)) }
         ensures stopped { let plan = call.now.checked.now in IfErr result (λ stop. stop ≢ Stop.NoMemory
-            → (m : Map) × AreKnown shares.old m
+            → (m : Map) × AreKnown access.old.shares m
             × (transaction m receipt.old.tag plan.declared plan.steps ≡ Aborted stop)) }
         ensures kept { IfOk result (λ ended. IfNone ended
-            (IsKeptWith receipt.old.tag call.now.checked.now shares.old shares.new receipt.new)) }
-        ensures retried { IfOk result (λ ended. IfSome ended (λ cause. shares.new ≡ shares.old)) }
-        ensures lines { line_ids shares.new ≡ line_ids shares.old }
-        ensures same { OnErr result (shares.new ≡ shares.old) }
+            (IsKeptWith receipt.old.tag call.now.checked.now access.old.shares access.new.shares receipt.new)) }
+        ensures retried { IfOk result (λ ended. IfSome ended (λ cause. access.new.shares ≡ access.old.shares)) }
+        ensures lines { line_ids access.new.shares ≡ line_ids access.old.shares }
+        ensures passed { IfOk result (λ ended. IfGiven G.HasPassed gate.entry gate.exit) }
+        ensures same { OnErr result (access.new.shares ≡ access.old.shares) }
     {
-        if gate.is_some() {
-            return self.run_in_place(rt, call, shares, gate, receipt);
+        if let Some(gate) = gate {
+            return self.run_in_place(rt, call, access, gate, receipt);
         }
-        match self.commit_at_once(rt, call, shares, receipt)? {
+        let LineAccess { shares, permit } = access;
+        match self.commit_at_once(rt, call, shares, permit, receipt)? {
             AtOnce::Committed => return Ok(None),
             AtOnce::MustRetry(cause) => return Ok(Some(cause)),
             AtOnce::NotDone => {}
         }
-        match self.commit_move_at_once(rt, call, shares, receipt)? {
+        match self.commit_move_at_once(rt, call, shares, permit, receipt)? {
             AtOnce::Committed => Ok(None),
             AtOnce::MustRetry(cause) => Ok(Some(cause)),
-            AtOnce::NotDone => self.run_in_place(rt, call, shares, gate, receipt),
+            AtOnce::NotDone => self.run_in_place(rt, call, access, &mut NoGate, receipt),
         }
     }
 
@@ -132,26 +138,27 @@ impl<K: Log> Table<K> {
         &self,
         rt: &R,
         call: &Call<'_>,
-        shares: &mut SeatShares<K>,
-        gate: Option<&mut G>,
+        access: &mut LineAccess<K>,
+        gate: &mut G,
         receipt: &mut Receipt,
     ) -> Result<Option<Cause>, Stop>
-        requires of { line_ids shares.old ≡ self.now.lines.all }
+        requires of { line_ids access.old.shares ≡ self.now.lines.all }
         requires fits { Fits (slice_get self.now.kinds) call.now.checked.now.steps }
-        ensures outcome { let plan = call.now.checked.now in IfOk result (λ ended. (m : Map) × AreKnown shares.old m
-            × Answers (kept_tag m receipt.old.tag plan.declared)
+        ensures outcome { let plan = call.now.checked.now in IfOk result (λ ended. (m : Map)
+            × AreKnown access.old.shares m × Answers (kept_tag m receipt.old.tag plan.declared)
             (transaction m receipt.old.tag plan.declared plan.steps) (ran_of ended receipt.new)) }
         ensures stopped { let plan = call.now.checked.now in IfErr result (λ stop. stop ≢ Stop.NoMemory
-            → (m : Map) × AreKnown shares.old m
+            → (m : Map) × AreKnown access.old.shares m
             × (transaction m receipt.old.tag plan.declared plan.steps ≡ Aborted stop)) }
         ensures kept { IfOk result (λ ended. IfNone ended
-            (IsKeptWith receipt.old.tag call.now.checked.now shares.old shares.new receipt.new)) }
-        ensures retried { IfOk result (λ ended. IfSome ended (λ cause. shares.new ≡ shares.old)) }
-        ensures lines { line_ids shares.new ≡ line_ids shares.old }
-        ensures same { OnErr result (shares.new ≡ shares.old) }
+            (IsKeptWith receipt.old.tag call.now.checked.now access.old.shares access.new.shares receipt.new)) }
+        ensures retried { IfOk result (λ ended. IfSome ended (λ cause. access.new.shares ≡ access.old.shares)) }
+        ensures lines { line_ids access.new.shares ≡ line_ids access.old.shares }
+        ensures passed { G.HasPassed gate.old gate.new }
+        ensures same { OnErr result (access.new.shares ≡ access.old.shares) }
     {
         let recycled = mem::replace(receipt, Receipt::blank(call.alloc));
-        match self.run_held(rt, recycled, call, shares, gate)? {
+        match self.run_held(rt, recycled, call, access, gate)? {
             Ran::Kept(kept) => {
                 *receipt = kept;
                 Ok(None)
@@ -160,38 +167,38 @@ impl<K: Log> Table<K> {
         }
     }
 
-    /// Runs a transaction on its channels while their locks are held, after the gate was called. A commit counts in the
-    /// shares, and its receipt reuses the memory of the recycled one.
+    /// Runs a transaction on its channels while their locks are held, after the gate was called once. A commit counts in
+    /// the shares, and its receipt reuses the memory of the recycled one.
     fn run_held<R: Wait, G: Gate>(
         &self,
         rt: &R,
         recycled: Receipt,
         call: &Call<'_>,
-        shares: &mut SeatShares<K>,
-        gate: Option<&mut G>,
+        access: &mut LineAccess<K>,
+        gate: &mut G,
     ) -> Result<Ran, Stop>
-        requires of { line_ids shares.old ≡ self.now.lines.all }
+        requires of { line_ids access.old.shares ≡ self.now.lines.all }
         requires fits { Fits (slice_get self.now.kinds) call.now.checked.now.steps }
-        ensures outcome { let plan = call.now.checked.now in IfOk result (λ ran. (m : Map) × AreKnown shares.old m
-            × Answers (kept_tag m recycled.tag plan.declared)
+        ensures outcome { let plan = call.now.checked.now in IfOk result (λ ran. (m : Map)
+            × AreKnown access.old.shares m × Answers (kept_tag m recycled.tag plan.declared)
             (transaction m recycled.tag plan.declared plan.steps) ran) }
         ensures stopped { let plan = call.now.checked.now in IfErr result (λ stop. stop ≢ Stop.NoMemory
-            → (m : Map) × AreKnown shares.old m
+            → (m : Map) × AreKnown access.old.shares m
             × (transaction m recycled.tag plan.declared plan.steps ≡ Aborted stop)) }
         ensures kept { IfOk result (λ ran. IfKept ran
-            (IsKeptWith recycled.tag call.now.checked.now shares.old shares.new)) }
-        ensures retried { IfOk result (λ ran. IfRetry ran (shares.new ≡ shares.old)) }
-        ensures lines { line_ids shares.new ≡ line_ids shares.old }
-        ensures same { OnErr result (shares.new ≡ shares.old) }
+            (IsKeptWith recycled.tag call.now.checked.now access.old.shares access.new.shares)) }
+        ensures retried { IfOk result (λ ran. IfRetry ran (access.new.shares ≡ access.old.shares)) }
+        ensures lines { line_ids access.new.shares ≡ line_ids access.old.shares }
+        ensures passed { G.HasPassed gate.old gate.new }
+        ensures same { OnErr result (access.new.shares ≡ access.old.shares) }
     {
         let checked = call.checked;
         let tag = recycled.tag;
         checked.show_fits(self.kinds.as_slice());
         checked.show();
-        let mut guards = Guards::take(rt, &self.lines, checked.declared(), shares);
-        if let Some(gate) = gate {
-            gate.pass();
-        }
+        let LineAccess { shares, permit } = access;
+        let order = LockOrder::new(&self.lines, permit);
+        let mut guards = Guards::take(rt, order, checked.declared(), shares, gate);
         let ran = guards.commit(rt, recycled, tag, checked, shares);
         guards.release();
         ran
@@ -211,6 +218,7 @@ impl<K: Log> Table<K> {
         requires of { seat.old.lines ≡ self.now.lines }
         requires fits { Fits (slice_get self.now.kinds) checked.now.steps }
         ensures outcome { IsAttempted (λ tried. tried) (decls_of self.now.lines) checked.now seat.old result seat.new }
+        ensures passed { IfOk result (λ tried. G.HasPassed gate.old gate.new) }
         ensures lines { seat.new.lines ≡ seat.old.lines }
     {
         self.attempt_with(rt, alloc, seat, checked, Some(gate))
@@ -229,11 +237,12 @@ impl<K: Log> Table<K> {
         requires of { seat.old.lines ≡ self.now.lines }
         requires fits { Fits (slice_get self.now.kinds) checked.now.steps }
         ensures outcome { IsAttempted (λ tried. tried) (decls_of self.now.lines) checked.now seat.old result seat.new }
+        ensures passed { IfOk result (λ tried. IfGiven G.HasPassed gate.entry gate.exit) }
         ensures lines { seat.new.lines ≡ seat.old.lines }
     {
         let Seat {
             history,
-            shares,
+            access,
             table_share: _,
             draft,
         } = seat;
@@ -241,13 +250,13 @@ impl<K: Log> Table<K> {
         let receipt = &mut draft.receipt;
         receipt.tag = history.reserve()?;
         let call = Call { alloc, checked };
-        match self.run(rt, &call, shares, gate, receipt) {
+        match self.run(rt, &call, access, gate, receipt) {
             Ok(None) => {}
             Ok(Some(cause)) => return Ok(Tried::Retry(cause)),
             Err(stop) => return Err(stop),
         }
         let registered = self.take_registered_for(receipt);
-        shares.show();
+        access.shares.show();
         history.show();
         let number = history.keep(alloc, checked, draft);
         self.wait_queue.notify(rt, registered);

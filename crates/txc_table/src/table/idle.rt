@@ -17,6 +17,7 @@ use super::Table;
 use super::locked::LockedTable;
 use crate::closing::{buffers_for, report};
 use crate::departed_seat::DepartedSeat;
+use crate::line_access::LineAccess;
 use crate::seat::Seat;
 use crate::tried::Tried;
 use std::alloc::Global;
@@ -133,7 +134,8 @@ impl<K: Log, S: Receipts> IdleTable<K, S> {
 
     /// Tries a transaction of the seat at this index without committing it. Returns the cause for which it must be
     /// retried, or `None` if it would commit. The transaction must fit the table's kinds. Returns the transaction's own
-    /// stop, `Worn` if the seat or a channel can count no further, or `NoMemory` if allocation fails. Allocates.
+    /// stop, `Worn` if the seat or a channel can count no further, or `NoMemory` if allocation fails. The channels are
+    /// unchanged afterwards, with their logs and stamps. Allocates.
     pub fn cause_to_retry<R: Wait>(
         &mut self,
         rt: &R,
@@ -155,8 +157,7 @@ impl<K: Log, S: Receipts> IdleTable<K, S> {
             checked.now.declared checked.now.steps ≡ Aborted stop) }
         ensures table { self.new.table ≡ self.old.table }
         ensures left { self.new.left ≡ self.old.left }
-        ensures same { IfOk result (λ found. IfSome found (λ cause.
-            chan_in self.new.helds ≡ chan_in self.old.helds)) }
+        ensures same { chan_in self.new.helds ≡ chan_in self.old.helds }
     {
         checked.show_fits(self.locked.kinds.as_slice());
         let seat = &mut self.left[at];
@@ -189,11 +190,12 @@ impl<K: Log, S: Receipts> IdleTable<K, S> {
         let DepartedSeat {
             history,
             shares,
+            permit,
             table_share,
         } = left.remove(at);
         let mut seat = Seat {
             history,
-            shares,
+            access: LineAccess { shares, permit },
             table_share,
             draft,
         };

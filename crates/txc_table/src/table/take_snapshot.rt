@@ -8,11 +8,13 @@ ghost use Rattle.txc_table.specs.Seat.{IsAccountTo, SeesMore, seen_at};
 ghost use Rattle.txc_table.specs.Table.{decls_of};
 
 use super::Table;
+use crate::line_access::LineAccess;
 use crate::seat::Seat;
 use std::sync::Wait;
 use txc_base::Stop;
 use txc_chan::{Account, Log, Summary};
 use txc_table_line::{SnapshotKind, Summarized, WithLog};
+use txc_table_lines::LockOrder;
 use txc_table_seat::Receipts;
 
 impl<K: Log> Table<K> {
@@ -37,7 +39,8 @@ impl<K: Log> Table<K> {
     {
         // Only for the proof: the invariant of the type says that there is a line for each kind.
         let _lines = &self.kinds;
-        seat.shares.take_snapshot::<T, R>(rt, &self.lines, chan)
+        let LineAccess { shares, permit } = &mut seat.access;
+        shares.take_snapshot::<T, R>(rt, LockOrder::new(&self.lines, permit), chan)
     }
 
     /// Returns a snapshot of a channel without its log, for any kind of log. The channel must be one of the table's.
@@ -80,7 +83,7 @@ impl Table {
         ensures unchanged { OnErr result (seat.new ≡ seat.old) }
     {
         // Only for the proof: the invariant of the type says that the seat's acts are the entries at their places.
-        let _stands = &seat.shares;
+        let _stands = &seat.access;
         self.take_snapshot::<WithLog, _, R>(rt, seat, chan)
     }
 }

@@ -65,6 +65,6 @@ returns-in-Ok-Some-clause-stuck g c d =
     next_there lines c.args.plans.now (no_commits c.args.at) seat c.requires.stalled.0 (c.requires.stalled.1 d)
     c.count-next.result (many ∙ sym (zero-add c.count-next.result)) in
     let again = rw c.in-Ok-Some.field-0-is at c.in-Ok-Some.ensures.again in
-    let same = rw c.in-Ok-Some.field-0-is at c.in-Ok-Some.ensures.same in
+    let same = c.cause_to_retry.ensures.same in
     stuck_at c.args.idle.now.helds c.cause_to_retry.new.self.helds c.args.plans.now seat c.index-plans-next.result
     c.in-Ok-Some.cause c.count-next.result many below c.index-plans-next.is same (again d)

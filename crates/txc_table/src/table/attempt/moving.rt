@@ -22,7 +22,7 @@ use std::alloc::AllocError;
 use std::sync::Wait;
 use txc_base::{List, Op, Source};
 use txc_chan::Log;
-use txc_table_lines::{AtOnce, Choice, Move, SeatShares};
+use txc_table_lines::{AtOnce, Choice, LockOrder, LockPermit, Move, SeatShares};
 use txc_txn::{Checked, Receipt};
 use txc_txn_check::Step;
 
@@ -173,6 +173,7 @@ impl<K: Log> Table<K> {
         rt: &R,
         call: &Call<'_>,
         shares: &mut SeatShares<K>,
+        permit: &mut LockPermit,
         receipt: &mut Receipt,
     ) -> Result<AtOnce, AllocError>
         requires of { line_ids shares.old ≡ self.now.lines.all }
@@ -192,12 +193,13 @@ impl<K: Log> Table<K> {
     {
         let checked = call.checked;
         let Some(what) = only_move(checked) else {
-            return self.commit_choice_at_once(rt, call, shares, receipt);
+            return self.commit_choice_at_once(rt, call, shares, permit, receipt);
         };
         checked.show_fits(self.kinds.as_slice());
         checked.show();
         shares.show();
-        shares.commit_move(rt, &self.lines, receipt.tag, what, receipt)
+        let order = LockOrder::new(&self.lines, permit);
+        shares.commit_move(rt, order, receipt.tag, what, receipt)
     }
 
     /// Commits a transaction that chooses between two moves at once, as `commit_move_at_once` does.
@@ -206,6 +208,7 @@ impl<K: Log> Table<K> {
         rt: &R,
         call: &Call<'_>,
         shares: &mut SeatShares<K>,
+        permit: &mut LockPermit,
         receipt: &mut Receipt,
     ) -> Result<AtOnce, AllocError>
         requires of { line_ids shares.old ≡ self.now.lines.all }
@@ -230,6 +233,7 @@ impl<K: Log> Table<K> {
         checked.show_fits(self.kinds.as_slice());
         checked.show();
         shares.show();
-        shares.commit_choice(rt, &self.lines, receipt.tag, what, receipt)
+        let order = LockOrder::new(&self.lines, permit);
+        shares.commit_choice(rt, order, receipt.tag, what, receipt)
     }
 }

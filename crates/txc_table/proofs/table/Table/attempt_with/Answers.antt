@@ -28,7 +28,7 @@ returns-in-Err-clause-outcome g c =
       stopped = λ ne.
           (let found = c.in-Err.ensures.stopped ne in (
             found.0,
-            found_by c.seat.inside.shares c.seat.inside.history.commits c.args.seat.now c.args.self.now.lines found.0
+            found_by c.seat.inside.access.shares c.seat.inside.history.commits c.args.seat.now c.args.self.now.lines found.0
                 c.seat.view_is c.requires.of c.seat.invariant found.1,
             ap (λ (t : Tag). transaction found.0 t declared steps) (sym tag_is) ∙ found.2,
           ));
@@ -38,37 +38,37 @@ returns-in-Err-clause-outcome g c =
 pub keep-number-requires-clause-inside : goal.keep-number-requires-clause-inside
 keep-number-requires-clause-inside g c =
     let r : Receipt = c.run.new.receipt in
-    let kept : IsKeptWith c.in_ok-receipt.field-0 c.args.checked.now c.seat.inside.shares c.run.new.shares r =
+    let kept : IsKeptWith c.in_ok-receipt.field-0 c.args.checked.now c.seat.inside.access.shares c.run.new.access.shares r =
     rw c.in-Ok-None.field-0-is at c.in-Ok-None.ensures.kept in
-    let channels : length c.run.new.shares ≡ c.reserve.new.self.channels =
-    same_many c.seat.inside.shares c.run.new.shares c.run.ensures.lines
+    let channels : length c.run.new.access.shares ≡ c.reserve.new.self.channels =
+    same_many c.seat.inside.access.shares c.run.new.access.shares c.run.ensures.lines
     ∙ sym (c.reserve.ensures.channels ∙ c.seat.invariant.each) in
-    subst (λ n. All (λ (deed : Deed). deed.chan < n) r.acts) channels (acts_inside c.run.new.shares r kept.stand)
+    subst (λ n. All (λ (deed : Deed). deed.chan < n) r.acts) channels (acts_inside c.run.new.access.shares r kept.stand)
 
 pub keep-number-requires-clause-few : goal.keep-number-requires-clause-few
 keep-number-requires-clause-few g c =
     let rs : List Receipt = c.seat.inside.history.commits.receipts in
     let r : Receipt = c.run.new.receipt in
-    let kept : IsKeptWith c.in_ok-receipt.field-0 c.args.checked.now c.seat.inside.shares c.run.new.shares r =
+    let kept : IsKeptWith c.in_ok-receipt.field-0 c.args.checked.now c.seat.inside.access.shares c.run.new.access.shares r =
     rw c.in-Ok-None.field-0-is at c.in-Ok-None.ensures.kept in
     subst (λ (s : SeatCommits). (n : ℕ) → n < c.reserve.new.self.channels → count n s.receipts + count_deeds n r.acts
     ≤ GREATEST_NUMBER)
     (sym c.reserve.ensures.same)
-    (λ n below. few_more c.in_ok-receipt.field-0 c.args.checked.now c.seat.inside.shares c.run.new.shares rs r
+    (λ n below. few_more c.in_ok-receipt.field-0 c.args.checked.now c.seat.inside.access.shares c.run.new.access.shares rs r
     c.seat.invariant.counted kept c.show.ensures n)
 
 pub invariant_of-seat-2 : goal.invariant_of-seat-2
 invariant_of-seat-2 g c =
     let r : Receipt = c.run.new.receipt in
-    let kept : IsKeptWith c.in_ok-receipt.field-0 c.args.checked.now c.seat.inside.shares c.run.new.shares r =
+    let kept : IsKeptWith c.in_ok-receipt.field-0 c.args.checked.now c.seat.inside.access.shares c.run.new.access.shares r =
     rw c.in-Ok-None.field-0-is at c.in-Ok-None.ensures.kept in
     let commits : c.reserve.new.self.commits ≡ c.seat.inside.history.commits =
     c.reserve.ensures.same in
     let channels : c.keep-number.new.self.channels ≡ c.seat.inside.history.channels =
     c.keep-number.ensures.channels ∙ c.reserve.ensures.channels in
-    subst (λ n. IsSeated c.run.new.shares c.keep-number.new.self.commits n c.seat.inside.table_share.parts)
+    subst (λ n. IsSeated c.run.new.access.shares c.keep-number.new.self.commits n c.seat.inside.table_share.parts)
     (sym channels)
-    (seated_more c.in_ok-receipt.field-0 c.args.checked.now c.seat.inside.shares c.run.new.shares
+    (seated_more c.in_ok-receipt.field-0 c.args.checked.now c.seat.inside.access.shares c.run.new.access.shares
     c.seat.inside.history.commits c.keep-number.new.self.commits r c.seat.invariant kept c.run.ensures.lines
     c.in_ok-receipt.ensures.tag
     (subst (λ (s : SeatCommits). length s.plans ≡ length s.receipts) commits c.show-2.ensures.even)
@@ -90,7 +90,7 @@ returns-in-Ok-Some-clause-outcome g c =
     record {
       returned = (
         found.0,
-        found_by c.seat.inside.shares c.seat.inside.history.commits c.args.seat.now c.args.self.now.lines found.0
+        found_by c.seat.inside.access.shares c.seat.inside.history.commits c.args.seat.now c.args.self.now.lines found.0
             c.seat.view_is c.requires.of c.seat.invariant found.1,
         (commits, ap (λ (t : Tag). transaction found.0 t declared steps) (sym tag_is) ∙ again),
       );
@@ -112,12 +112,12 @@ returns-clause-outcome g c =
     let answers = answers_kept (kept_tag found.0 c.in_ok-receipt.field-0 declared)
     (transaction found.0 c.in_ok-receipt.field-0 declared steps) (ran_of c.in-Ok-None.field-0 r) r
     (ap (λ e. ran_of e r) c.in-Ok-None.field-0-is) found.2 in
-    let kept : IsKeptWith c.in_ok-receipt.field-0 c.args.checked.now c.seat.inside.shares c.run.new.shares r =
+    let kept : IsKeptWith c.in_ok-receipt.field-0 c.args.checked.now c.seat.inside.access.shares c.run.new.access.shares r =
     rw c.in-Ok-None.field-0-is at c.in-Ok-None.ensures.kept in
     record {
       returned = (
         found.0,
-        found_by c.seat.inside.shares c.seat.inside.history.commits c.args.seat.now c.args.self.now.lines found.0
+        found_by c.seat.inside.access.shares c.seat.inside.history.commits c.args.seat.now c.args.self.now.lines found.0
             c.seat.view_is c.requires.of c.seat.invariant found.1,
         (
           r,
@@ -127,8 +127,8 @@ returns-clause-outcome g c =
               tag_is answers,
         ),
       );
-      sees = subst (λ (s : SeatView). SeesMore (seen_at s) (log_at (seen_in c.run.new.shares))) c.seat.view_is
-          (sees_by c.seat.inside.shares c.run.new.shares kept.grew);
+      sees = subst (λ (s : SeatView). SeesMore (seen_at s) (log_at (seen_in c.run.new.access.shares))) c.seat.view_is
+          (sees_by c.seat.inside.access.shares c.run.new.access.shares kept.grew);
       stopped = tt;
       unchanged = tt;
     }

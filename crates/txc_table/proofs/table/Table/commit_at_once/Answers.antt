@@ -3,6 +3,7 @@ use Rattle.std.proofs.lemmas.List.{length-map}
 use Rattle.txc_base.specs.declared.kind.Kind.{Kind}
 use Rattle.txc_base.specs.Op.{chan_of}
 use Rattle.txc_txn_check.specs.Steps.{Fits}
+use Rattle.txc_table_line.specs.Line.{LineId}
 use Rattle.txc_table_line.specs.SeatShare.{SeatShareView}
 use Rattle.txc_table_lines.specs.Lines.{line_ids}
 use Rattle.txc_table.specs.Table.{TableView}
@@ -10,16 +11,21 @@ use Rattle.txc_table.proofs.AtOnce.{kept_at_once, line_supports, ok_map, only_de
 use Rattle.txc_table.proofs.Trying.{kinds_within}
 use Rattle.txc_table.proofs.table.Table.commit_at_once.Goals as goal
 
+pub commit_one-requires-clause-of : goal.commit_one-requires-clause-of
+commit_one-requires-clause-of g c =
+    c.requires.of ∙ sym (ap (λ (t : TableView). t.lines.all) c.self.view_is) ∙ sym c.new-order.ensures.lines
+
 pub commit_one-requires-clause-there : goal.commit_one-requires-clause-there
 commit_one-requires-clause-there g c =
     let kinds : c.as_slice.result.now ≡ c.args.self.now.kinds =
     c.as_slice.ensures ∙ ap (λ (t : TableView). t.kinds) c.self.view_is in
     let fits : Fits (slice_get c.as_slice.result.now) c.args.call.now.checked.now.steps =
     subst (λ (ks : List Kind). Fits (slice_get ks) c.args.call.now.checked.now.steps) (sym kinds) c.requires.fits in
-    kinds_within c.as_slice.result.now c.self.inside.lines (chan_of c.in-Some.op.now)
+    subst (λ (lines : List LineId). chan_of c.in-Some.op.now < length lines) (sym c.new-order.ensures.lines)
+    (kinds_within c.as_slice.result.now c.self.inside.lines (chan_of c.in-Some.op.now)
     (c.as_slice.ensures ∙ c.self.invariant.declared)
     (c.show_fits.ensures.there fits (chan_of c.in-Some.op.now)
-    (only_declared c.args.call.now.checked.now.declared c.in-Some.op.now c.in-Some.ensures.some.1))
+    (only_declared c.args.call.now.checked.now.declared c.in-Some.op.now c.in-Some.ensures.some.1)))
 
 pub commit_one-requires-clause-supports : goal.commit_one-requires-clause-supports
 commit_one-requires-clause-supports g c =
@@ -36,6 +42,7 @@ commit_one-requires-clause-supports g c =
       arith,
       commit_one-requires-clause-there g c,
       ap length of,
+      ap length c.new-order.ensures.lines,
       length-map c.args.shares.now (λ (share : SeatShareView). share.line),
     ) in
     line_supports c.args.shares.now c.self.inside.lines c.as_slice.result.now c.in-Some.op.now
@@ -50,6 +57,7 @@ returns-clause-kept g c =
       arith,
       commit_one-requires-clause-there g c.before,
       ap length of,
+      ap length c.new-order.ensures.lines,
       length-map c.args.shares.now (λ (share : SeatShareView). share.line),
     ) in
     ok_map _ _ c.commit_one.result (λ is committed yes-it-is. kept_at_once c.args.receipt.now.tag

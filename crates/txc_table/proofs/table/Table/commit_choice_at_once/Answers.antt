@@ -7,6 +7,7 @@ use Rattle.txc_txn_check.specs.declared.step.Step.{Step}
 use Rattle.txc_txn_check.specs.Steps.{Fits}
 use Rattle.txc_txn.specs.Choice.{choice_steps}
 use Rattle.txc_txn.specs.TwoOperations.{move_steps}
+use Rattle.txc_table_line.specs.Line.{LineId}
 use Rattle.txc_table_line.specs.SeatShare.{SeatShareView}
 use Rattle.txc_table_lines.specs.Choice.{channels_of}
 use Rattle.txc_table_lines.specs.Lines.{line_ids}
@@ -17,6 +18,10 @@ use Rattle.txc_table.proofs.MoveAtOnce.{three_declared, three_there, write_fits}
 use Rattle.txc_table.proofs.Trying.{kinds_within}
 use Rattle.txc_table.proofs.table.Table.commit_choice_at_once.Goals as goal
 
+pub commit_choice-requires-clause-of : goal.commit_choice-requires-clause-of
+commit_choice-requires-clause-of g c =
+    c.requires.of ∙ sym (ap (λ (t : TableView). t.lines.all) c.self.view_is) ∙ sym c.new-order.ensures.lines
+
 pub commit_choice-requires-clause-first : goal.commit_choice-requires-clause-first
 commit_choice-requires-clause-first g c =
     let what = c.in-Some.what in
@@ -26,8 +31,9 @@ commit_choice-requires-clause-first g c =
     let fits : Fits (slice_get c.as_slice.result.now) plan.steps =
     subst (λ (ks : List Kind). Fits (slice_get ks) plan.steps) (sym kinds) c.requires.fits in
     let declared = three_declared plan.declared what.first what.second what.to c.in-Some.ensures.declared in
-    kinds_within c.as_slice.result.now c.self.inside.lines what.first (c.as_slice.ensures ∙ c.self.invariant.declared)
-    (c.show_fits.ensures.there fits what.first declared.0)
+    subst (λ (lines : List LineId). what.first < length lines) (sym c.new-order.ensures.lines)
+    (kinds_within c.as_slice.result.now c.self.inside.lines what.first (c.as_slice.ensures ∙ c.self.invariant.declared)
+    (c.show_fits.ensures.there fits what.first declared.0))
 
 pub commit_choice-requires-clause-second : goal.commit_choice-requires-clause-second
 commit_choice-requires-clause-second g c =
@@ -38,8 +44,9 @@ commit_choice-requires-clause-second g c =
     let fits : Fits (slice_get c.as_slice.result.now) plan.steps =
     subst (λ (ks : List Kind). Fits (slice_get ks) plan.steps) (sym kinds) c.requires.fits in
     let declared = three_declared plan.declared what.first what.second what.to c.in-Some.ensures.declared in
-    kinds_within c.as_slice.result.now c.self.inside.lines what.second (c.as_slice.ensures ∙ c.self.invariant.declared)
-    (c.show_fits.ensures.there fits what.second declared.1)
+    subst (λ (lines : List LineId). what.second < length lines) (sym c.new-order.ensures.lines)
+    (kinds_within c.as_slice.result.now c.self.inside.lines what.second (c.as_slice.ensures ∙ c.self.invariant.declared)
+    (c.show_fits.ensures.there fits what.second declared.1))
 
 pub commit_choice-requires-clause-to : goal.commit_choice-requires-clause-to
 commit_choice-requires-clause-to g c =
@@ -50,8 +57,9 @@ commit_choice-requires-clause-to g c =
     let fits : Fits (slice_get c.as_slice.result.now) plan.steps =
     subst (λ (ks : List Kind). Fits (slice_get ks) plan.steps) (sym kinds) c.requires.fits in
     let declared = three_declared plan.declared what.first what.second what.to c.in-Some.ensures.declared in
-    kinds_within c.as_slice.result.now c.self.inside.lines what.to (c.as_slice.ensures ∙ c.self.invariant.declared)
-    (c.show_fits.ensures.there fits what.to declared.2)
+    subst (λ (lines : List LineId). what.to < length lines) (sym c.new-order.ensures.lines)
+    (kinds_within c.as_slice.result.now c.self.inside.lines what.to (c.as_slice.ensures ∙ c.self.invariant.declared)
+    (c.show_fits.ensures.there fits what.to declared.2))
 
 pub commit_choice-requires-clause-reads_first : goal.commit_choice-requires-clause-reads_first
 commit_choice-requires-clause-reads_first g c =
@@ -71,6 +79,7 @@ commit_choice-requires-clause-reads_first g c =
       arith,
       commit_choice-requires-clause-first g c,
       ap length of,
+      ap length c.new-order.ensures.lines,
       length-map c.args.shares.now (λ (share : SeatShareView). share.line),
     ) in
     line_fits c.args.shares.now c.self.inside.lines c.as_slice.result.now (Read what.first what.first_reader) of
@@ -96,6 +105,7 @@ commit_choice-requires-clause-reads_second g c =
       arith,
       commit_choice-requires-clause-second g c,
       ap length of,
+      ap length c.new-order.ensures.lines,
       length-map c.args.shares.now (λ (share : SeatShareView). share.line),
     ) in
     line_fits c.args.shares.now c.self.inside.lines c.as_slice.result.now (Read what.second what.second_reader) of
@@ -121,6 +131,7 @@ commit_choice-requires-clause-writes g c =
       arith,
       commit_choice-requires-clause-to g c,
       ap length of,
+      ap length c.new-order.ensures.lines,
       length-map c.args.shares.now (λ (share : SeatShareView). share.line),
     ) in
     line_fits c.args.shares.now c.self.inside.lines c.as_slice.result.now (Write what.to Last) of
@@ -156,11 +167,11 @@ returns-clause-kept g c =
     c.requires.of ∙ sym (ap (λ (t : TableView). t.lines.all) c.self.view_is) in
     let long = length-map c.args.shares.now (λ (share : SeatShareView). share.line) in
     let first : what.first < length c.args.shares.now =
-    omega (arith, commit_choice-requires-clause-first g c.before, ap length of, long) in
+    omega (arith, commit_choice-requires-clause-first g c.before, ap length of, ap length c.new-order.ensures.lines, long) in
     let second : what.second < length c.args.shares.now =
-    omega (arith, commit_choice-requires-clause-second g c.before, ap length of, long) in
+    omega (arith, commit_choice-requires-clause-second g c.before, ap length of, ap length c.new-order.ensures.lines, long) in
     let to : what.to < length c.args.shares.now =
-    omega (arith, commit_choice-requires-clause-to g c.before, ap length of, long) in
+    omega (arith, commit_choice-requires-clause-to g c.before, ap length of, ap length c.new-order.ensures.lines, long) in
     ok_map _ _ c.commit_choice.result (λ is committed at-once. kept_as c.args.receipt.now.tag
     c.args.call.now.checked.now (channels_of what) steps c.args.shares.now c.commit_choice.new.self
     c.commit_choice.new.receipt c.in-Some.ensures.steps c.in-Some.ensures.declared

@@ -32,7 +32,7 @@ returns-in-NotDone-2-clause-outcome g c =
     let plan = c.args.call.now.checked.now in
     let left = c.in_ok-commit_at_once.ensures.left (not_committed _ c.in-NotDone.is) in
     let again = c.in_ok-commit_move_at_once.ensures.left (not_committed _ c.in-NotDone-2.is) in
-    let shares : c.commit_move_at_once.new.shares ≡ c.args.shares.now = again.0 ∙ left.0 in
+    let shares : c.commit_move_at_once.new.shares ≡ c.args.access.now.shares = again.0 ∙ left.0 in
     let tag : c.commit_move_at_once.new.receipt.tag ≡ c.args.receipt.now.tag = again.1 ∙ left.1 in
     subst (λ (shares : List SeatShareView). IfOk c.run_in_place-in-NotDone-2.result (λ ended. (m : Map)
     × AreKnown shares m × Answers (kept_tag m c.args.receipt.now.tag plan.declared)

@@ -12,16 +12,16 @@ use Rattle.txc_table.proofs.table.Table.run_in_place.Goals as goal
 pub returns-in_err-kept-clause-stopped : goal.returns-in_err-kept-clause-stopped
 returns-in_err-kept-clause-stopped g c =
     subst (λ (r : Receipt). IfErr c.from_residual.result (λ stop. stop ≢ NoMemory
-    → (m : Map) × AreKnown c.args.shares.now m × (transaction m r.tag c.args.call.now.checked.now.declared
+    → (m : Map) × AreKnown c.args.access.now.shares m × (transaction m r.tag c.args.call.now.checked.now.declared
     c.args.call.now.checked.now.steps ≡ Aborted stop))) c.replace-recycled.ensures.value (search rules)
 
 pub returns-in-Retry-clause-outcome : goal.returns-in-Retry-clause-outcome
 returns-in-Retry-clause-outcome g c =
-    subst (λ (r : Receipt). (m : Map) × AreKnown c.args.shares.now m
+    subst (λ (r : Receipt). (m : Map) × AreKnown c.args.access.now.shares m
     × Answers (kept_tag m r.tag c.args.call.now.checked.now.declared)
     (transaction m r.tag c.args.call.now.checked.now.declared c.args.call.now.checked.now.steps)
     (Ran.Retry c.in-Retry.cause)) c.replace-recycled.ensures.value
-    (subst (λ (ran : Ran). (m : Map) × AreKnown c.args.shares.now m
+    (subst (λ (ran : Ran). (m : Map) × AreKnown c.args.access.now.shares m
     × Answers (kept_tag m c.replace-recycled.result.tag c.args.call.now.checked.now.declared)
     (transaction m c.replace-recycled.result.tag c.args.call.now.checked.now.declared c.args.call.now.checked.now.steps)
     ran) c.in-Retry.is c.in_ok-kept.ensures.outcome)

@@ -1,40 +1,9 @@
-use Rattle.std.proofs.Common.{rules, refl, ◌≡◌, ◌∙◌, ap, subst, List, slice_set}
-use mathlib.Core.List.{IsPrefix}
+use Rattle.std.proofs.Common.{subst, List}
 use Rattle.txc_table_line.specs.SeatShare.{SeatShareView}
-use Rattle.txc_table_lines.specs.Lines.{OnlyGrew, line_ids, no_share}
-use Rattle.txc_table_lines.proofs.Sharing.{grew_set, indexed, lines_set, same_lock, there, true_set}
+use Rattle.txc_table_lines.specs.Lines.{OnlyGrew}
 use Rattle.txc_table_lines.proofs.seat_shares.SeatShares.take_snapshot.Goals as goal
-
-pub take_snapshot-snapshot-requires : goal.take_snapshot-snapshot-requires
-take_snapshot-snapshot-requires g c =
-    let at : c.from-chan.result ≡ c.args.chan = search rules in
-    same_lock (λ lock. lock.label.value.line) _ _ _ _ _ _ _ _ c.self.view_is c.lines.view_is c.requires.of at
-    c.requires.there c.index_mut-share.ensures.value c.index.ensures
-
-pub invariant_of-self : goal.invariant_of-self
-invariant_of-self g c =
-    let at : c.from-chan.result ≡ c.args.chan = search rules in
-    true_set c.self.inside.shares.items c.from-chan.result c.take_snapshot-snapshot.new.self c.self.invariant
-    (there _ _ _ _ _ c.self.view_is c.requires.of at c.requires.there) c.show.ensures
 
 pub returns-clause-grew : goal.returns-clause-grew
 returns-clause-grew g c =
-    let at : c.from-chan.result ≡ c.args.chan = search rules in
-    let below = there _ _ _ _ _ c.self.view_is c.requires.of at c.requires.there in
-    let share = indexed _ _ _ _ _ no_share refl refl below c.index_mut-share.ensures.value in
-    subst (λ (before : List SeatShareView). OnlyGrew before
-    (slice_set c.self.inside.shares.items c.from-chan.result c.take_snapshot-snapshot.new.self)) c.self.view_is
-    (grew_set c.self.inside.shares.items c.from-chan.result c.take_snapshot-snapshot.new.self below
-    (subst (λ (s : SeatShareView). IsPrefix s.log c.take_snapshot-snapshot.new.self.log) share
-    c.take_snapshot-snapshot.ensures.grew))
-
-pub returns-clause-lines : goal.returns-clause-lines
-returns-clause-lines g c =
-    let at : c.from-chan.result ≡ c.args.chan = search rules in
-    let below = there _ _ _ _ _ c.self.view_is c.requires.of at c.requires.there in
-    let share = indexed _ _ _ _ _ no_share refl refl below c.index_mut-share.ensures.value in
-    subst (λ (before : List SeatShareView). line_ids
-    (slice_set c.self.inside.shares.items c.from-chan.result c.take_snapshot-snapshot.new.self)
-    ≡ line_ids before) c.self.view_is
-    (lines_set c.self.inside.shares.items c.from-chan.result c.take_snapshot-snapshot.new.self below
-    (c.take_snapshot-snapshot.ensures.rest.0 ∙ ap (λ (s : SeatShareView). s.line) share))
+    subst (λ (before : List SeatShareView). OnlyGrew before c.take_snapshot_of.new.self) c.take_line-line.ensures.same
+    c.take_snapshot_of.ensures.grew

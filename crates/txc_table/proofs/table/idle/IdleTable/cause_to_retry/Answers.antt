@@ -120,3 +120,8 @@ returns-clause-lawful g c seat =
     (subst (λ (s : DepartedSeatView). AreLawful (line_decls (lines_of channels)) s.commits.receipts (chan_in (helds_of
     channels)))
     own lawful))
+
+pub returns-clause-same : goal.returns-clause-same
+returns-clause-same g c =
+    c.cause_to_retry.ensures.same
+    ∙ ap chan_in (ap helds_of c.show_known.ensures.same ∙ ap (λ (i : IdleTableView). i.helds) c.self.view_is)

@@ -1,6 +1,6 @@
 use Rattle.std.proofs.Common.{rules, ◌≡◌}
 use Rattle.txc_table_lines.proofs.Sharing.{same_lock}
-use Rattle.txc_table_lines.proofs.guards.take_line.Goals as goal
+use Rattle.txc_table_lines.proofs.lines.lock_order.lock_line.Goals as goal
 
 pub take-requires : goal.take-requires
 take-requires g c =
