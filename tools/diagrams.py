@@ -43,7 +43,7 @@ WAY = [
     (6, "txc_table/src/table/attempt.rt", "run_held", "txc_table/src/table/attempt.rt:run "
      "txc_table/src/table/attempt.rt:run_in_place"),
     (7, "txc_table_lines/src/guards.rt", "take", ""),
-    (8, "txc_table_lock/src/waiting.rt", "lock", "txc_table_lines/src/guards.rt:take_line "
+    (8, "txc_table_lock/src/waiting.rt", "lock", "txc_table_lines/src/lines/lock_order.rt:take_line "
      "txc_table_line/src/line_guard.rt:take"),
     (7, "txc_table_lines/src/guards.rt", "commit", ""),
     (8, "txc_txn/src/held.rt", "run_pending", ""),

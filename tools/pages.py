@@ -164,7 +164,7 @@ def wrong_claim(row, crates):
             return f"{name}, which isn't in {', '.join(crates)}"
     heads = "".join(clauses_of(name.split("::")[-1], text) for name in names) or text
     for clause in CLAUSES.findall(row):
-        is_there = re.search(rf"\bensures\*? {clause} {{", heads) or clause[0].isupper() and clause in text
+        is_there = re.search(rf"\b(?:ensures|requires)\*? {clause} {{", heads) or clause[0].isupper() and clause in text
         if not is_there:
             return f"a clause {clause}, which {', '.join(names) or ', '.join(crates)} doesn't have"
     return None
