@@ -44,6 +44,7 @@ WAY = [
      "txc_table/src/table/attempt.rt:run_in_place"),
     (7, "txc_table_lines/src/guards.rt", "take", ""),
     (8, "txc_table_lock/src/waiting.rt", "lock", "txc_table_lines/src/lines/lock_order.rt:take_line "
+     "txc_table_lines/src/lines/lock_order.rt:lock_line "
      "txc_table_line/src/line_guard.rt:take"),
     (7, "txc_table_lines/src/guards.rt", "commit", ""),
     (8, "txc_txn/src/held.rt", "run_pending", ""),
