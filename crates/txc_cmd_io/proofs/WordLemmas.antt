@@ -46,6 +46,7 @@ module _ (words : List Text) (found : Result ArgMatches Error)
       named : (o : Option Action) → action_in words ≡ o → IfOk (requested o) (λ a. action_in words ≡ Some a)
       named None is = tt
       named (Some a) is = is
+
       of : (r : Result ArgMatches Error)
           → IfOk r (λ m. (fault_of chanrun words ≡ []) × (subcommand_rows_of m ≡ subcommand_of chanrun words))
           → IfOk (request_in r) (λ a. action_in words ≡ Some a)
@@ -60,6 +61,7 @@ module _ (words : List Text) (found : Result ArgMatches Error)
           → IfErr (requested o) (λ e. e ≡ Usage → action_in words ≡ None)
       named None is = λ _. is
       named (Some a) is = tt
+
       of : (r : Result ArgMatches Error)
           → IfOk r (λ m. (fault_of chanrun words ≡ []) × (subcommand_rows_of m ≡ subcommand_of chanrun words))
           → IfErr r (HasKind (fault_of chanrun words))
