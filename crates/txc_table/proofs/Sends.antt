@@ -74,9 +74,10 @@ module _ (K : RattleType) (log : keep.Ghosts K.Denot) (log_sends : IsSend K) whe
         view_send _ _ _ _ _
         (recorded_send (left.TheInside.the_field K S log receipts).row _ _
         (left.TheInside.the_type K S log receipts).to_one
-        (struct_send (shape (left.TheInside.the_type K S log receipts))
-        (history_sends S receipts receipts_send,
-        (seat_shares_send K log, (search sendable depth 20, (share.the_send, tt))))))
+        (struct_send (shape (left.TheInside.the_type K S log receipts)) (
+          history_sends S receipts receipts_send,
+          (seat_shares_send K log, (search sendable depth 20, (share.the_send, tt))),
+        )))
 
   -- any thread may share a table
   pub table_syncs : IsSync (table.the_row K log)

@@ -218,7 +218,6 @@ impl<K: Log> Table<K> {
         requires of { seat.old.lines ≡ self.now.lines }
         requires fits { Fits (slice_get self.now.kinds) checked.now.steps }
         ensures outcome { IsAttempted (λ tried. tried) (decls_of self.now.lines) checked.now seat.old result seat.new }
-        ensures passed { IfOk result (λ tried. G.HasPassed gate.old gate.new) }
         ensures lines { seat.new.lines ≡ seat.old.lines }
     {
         self.attempt_with(rt, alloc, seat, checked, Some(gate))
@@ -237,7 +236,6 @@ impl<K: Log> Table<K> {
         requires of { seat.old.lines ≡ self.now.lines }
         requires fits { Fits (slice_get self.now.kinds) checked.now.steps }
         ensures outcome { IsAttempted (λ tried. tried) (decls_of self.now.lines) checked.now seat.old result seat.new }
-        ensures passed { IfOk result (λ tried. IfGiven G.HasPassed gate.entry gate.exit) }
         ensures lines { seat.new.lines ≡ seat.old.lines }
     {
         let Seat {

@@ -55,7 +55,7 @@ returns-clause-kept g c =
     c.requires.of ∙ sym (ap (λ (t : TableView). t.lines.all) c.self.view_is) in
     let there : chan_of c.in-Some.op.now < length c.args.shares.now = omega (
       arith,
-      commit_one-requires-clause-there g c.before,
+      commit_one-requires-clause-there g c.before.before,
       ap length of,
       ap length c.new-order.ensures.lines,
       length-map c.args.shares.now (λ (share : SeatShareView). share.line),

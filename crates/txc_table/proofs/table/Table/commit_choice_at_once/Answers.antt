@@ -167,11 +167,11 @@ returns-clause-kept g c =
     c.requires.of ∙ sym (ap (λ (t : TableView). t.lines.all) c.self.view_is) in
     let long = length-map c.args.shares.now (λ (share : SeatShareView). share.line) in
     let first : what.first < length c.args.shares.now =
-    omega (arith, commit_choice-requires-clause-first g c.before, ap length of, ap length c.new-order.ensures.lines, long) in
+    omega (arith, commit_choice-requires-clause-first g c.before.before, ap length of, ap length c.new-order.ensures.lines, long) in
     let second : what.second < length c.args.shares.now =
-    omega (arith, commit_choice-requires-clause-second g c.before, ap length of, ap length c.new-order.ensures.lines, long) in
+    omega (arith, commit_choice-requires-clause-second g c.before.before, ap length of, ap length c.new-order.ensures.lines, long) in
     let to : what.to < length c.args.shares.now =
-    omega (arith, commit_choice-requires-clause-to g c.before, ap length of, ap length c.new-order.ensures.lines, long) in
+    omega (arith, commit_choice-requires-clause-to g c.before.before, ap length of, ap length c.new-order.ensures.lines, long) in
     ok_map _ _ c.commit_choice.result (λ is committed at-once. kept_as c.args.receipt.now.tag
     c.args.call.now.checked.now (channels_of what) steps c.args.shares.now c.commit_choice.new.self
     c.commit_choice.new.receipt c.in-Some.ensures.steps c.in-Some.ensures.declared

@@ -115,9 +115,9 @@ returns-clause-kept g c =
     c.requires.of ∙ sym (ap (λ (t : TableView). t.lines.all) c.self.view_is) in
     let long = length-map c.args.shares.now (λ (share : SeatShareView). share.line) in
     let from : what.from < length c.args.shares.now =
-    omega (arith, commit_move-requires-clause-from g c.before, ap length of, ap length c.new-order.ensures.lines, long) in
+    omega (arith, commit_move-requires-clause-from g c.before.before, ap length of, ap length c.new-order.ensures.lines, long) in
     let to : what.to < length c.args.shares.now =
-    omega (arith, commit_move-requires-clause-to g c.before, ap length of, ap length c.new-order.ensures.lines, long) in
+    omega (arith, commit_move-requires-clause-to g c.before.before, ap length of, ap length c.new-order.ensures.lines, long) in
     ok_map _ _ c.commit_move.result (λ is committed at-once. kept_as c.args.receipt.now.tag
     c.args.call.now.checked.now (lower_first what.from what.to) (move_steps what.from what.reader what.to)
     c.args.shares.now c.commit_move.new.self c.commit_move.new.receipt c.in-Some.ensures.steps
