@@ -18,7 +18,10 @@ use txc_cmd_script::Script;
 use txc_txn::{Checked, Report};
 
 /// Makes the progress of each seat before its first try. Fails if allocation fails.
-pub fn fresh_progress(alloc: Global, seats: &[Vec<Checked>]) -> Result<Vec<SeatProgress>, AllocError>
+pub fn fresh_progress(
+    alloc: Global,
+    seats: &[Vec<Checked>],
+) -> Result<Vec<SeatProgress>, AllocError>
     ensures ok { IfOk result (λ progress. progress.items ≡ map (λ seat. untried) seats.now) }
 {
     let mut progress = Vec::new(alloc);
