@@ -37,7 +37,7 @@ ROOT = Path(__file__).resolve().parent.parent
 PLACES = ["*.md", "docs/*.md", "docs/decisions/*.md", "scripts/*.md", "bench/*.md", "tools/*.md", "bindings/*.md"]
 PAGES = [page for place in PLACES for page in sorted(ROOT.glob(place))]
 WORDY = [page for page in PAGES if page.parent in (ROOT, ROOT / "docs")]
-MOST_WORDS = 16192
+MOST_WORDS = 17320
 MOST_AVOIDED = 9
 AVOIDED = (r"stands|answers|told|so\s+many|behind|beside|whoever|of\s+which|as\s+it\s+is|want\s+of|let\s+go"
            r"|takes\s+(?:no\s+)?memory")
