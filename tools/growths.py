@@ -262,7 +262,7 @@ def main():
         chanrun = [ROOT / "crates/chanrun/out/chanrun", "run"]
         parts.append(pool.submit(without_a_thread, preloaded, chanrun, 3, NO_THREAD, ROOT / "examples/pipeline.json"))
         parts += [pool.submit(without_a_thread, preloaded, [programs["yalwythen_work_tests"], f"threads::{name}"], 3,
-                              (b"no thread\n", 0)) for name in WITHOUT_A_THREAD]
+                              (b"no thread\n\ntest result: ok\n", 0)) for name in WITHOUT_A_THREAD]
         found = [part.result() for part in parts]
     for counts, text in found:
         counts.show(text)
