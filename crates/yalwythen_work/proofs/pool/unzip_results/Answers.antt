@@ -54,13 +54,13 @@ loop-one-preserved g c =
             each_more (λ i l. l ≡ (slice_index_or served i s).plans) at.results.plans.items c.add.new.self.plans.items
                 one.plans c.in-Ok.ensures.plans
                 (λ i e low. (at.invariant.each i s x w e z
-                (subst (λ m. i < m) (sym at.results.left.ok.0) (subst (λ m. i < m) same_plans low))).2.0)
+                (subst (λ m. i < m) (sym at.results.left.ok.0) (subst (λ m. i < m) same_plans low))).2)
                 (subst (λ m. one.plans ≡ (slice_index_or served m s).plans) (at.results.left.ok.0 ∙ sym same_plans)
                 (ap (λ o. o.plans) is)) k p (subst (λ m. k < m) (sym grown_plans) within),
             each_more (λ i l. l ≡ (slice_index_or served i s).end) at.results.ends.items c.add.new.self.ends.items
                 one.end c.in-Ok.ensures.ends
                 (λ i e low. (at.invariant.each i s x w p e
-                (subst (λ m. i < m) (sym at.results.left.ok.0) (subst (λ m. i < m) same_ends low))).2.1)
+                (subst (λ m. i < m) (sym at.results.left.ok.0) (subst (λ m. i < m) same_ends low))).3)
                 (subst (λ m. one.end ≡ (slice_index_or served m s).end) (at.results.left.ok.0 ∙ sym same_ends)
                 (ap (λ o. o.end) is)) k z (subst (λ m. k < m) (sym grown_ends) within),
           );

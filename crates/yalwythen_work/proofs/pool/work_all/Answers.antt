@@ -105,7 +105,7 @@ returns-clause-noted g c = IfOk-weaker c.unzip_results.result _ _ (λ results so
     let does = all.each k j d sent (slice_index_or c.args.seats.items k s) (slice_index_or c.args.workers.items k w)
     is.0 is.1 in
     let at = sorted k d l w p (slice_index_or served.items k d).end (subst (λ n. k < n) (sym served.ok.0) came) in
-    ap (λ (b : PlansView). b.kept) at.2.0 ∙ does.0.noted (subst (λ (x : Setup). IsTrue x.audited) (sym is.2) audited)
+    ap (λ (b : PlansView). b.kept) at.2 ∙ does.0.noted (subst (λ (x : Setup). IsTrue x.audited) (sym is.2) audited)
     ∙ ap (λ (x : DepartedSeatView). x.commits.plans) (sym at.0)) c.unzip_results.ensures.each
 
 pub returns-clause-came : goal.returns-clause-came
@@ -127,5 +127,5 @@ returns-clause-came g c = IfOk-weaker c.unzip_results.result _ _ (λ results sor
     e (subst (λ n. k < n) (sym served.ok.0) came) in
     subst (λ x. g.Q.Role.Postcondition (slice_index_or c.args.workers.items k b) x (slice_index_or results.ends.items k e))
     (sym at.1) (subst (λ x. g.Q.Role.Postcondition (slice_index_or c.args.workers.items k b)
-    (slice_index_or served.items k d).worker x) (sym at.2.1) does.1))
+    (slice_index_or served.items k d).worker x) (sym at.3) does.1))
     c.unzip_results.ensures.each
