@@ -1,6 +1,6 @@
 -- The states of a search, in lists by a hash.
-use Rattle.std.proofs.Common.{◌≡◌, ◌≢◌, refl, sym, ◌∙◌, ap, subst, inl, inr, ⊎_elim, ◌⊎◌, ℕ, zero, suc, ◌<◌, List, []}
-use Rattle.std.proofs.Common.{◌∷◌, ◌++◌, length, Some, slice_get, slice_index_or, slice_set, arith}
+use Rattle.std.proofs.Common.{◌≡◌, refl, sym, ◌∙◌, ap, subst, inl, inr, ⊎_elim, ◌⊎◌, ℕ, zero, suc, ◌<◌, List, []}
+use Rattle.std.proofs.Common.{◌∷◌, ◌++◌, length, Some, slice_get, slice_index_or, slice_set}
 use Rattle.std.proofs.lemmas.Bool.Decides.{eqb_tells}
 use Rattle.std.proofs.lemmas.List.{get_or-set_other, get_or-set_same, length-set}
 use Rattle.std.proofs.lemmas.Option.{same_Some}

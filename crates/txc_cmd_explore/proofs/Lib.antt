@@ -7,3 +7,4 @@ pub mod Indexing
 pub mod Following
 pub mod Expanding
 pub mod Finishing
+pub mod Covering

@@ -62,6 +62,12 @@ pub moves_push : (seats : List (List CheckedView)) (order : List ℕ) (seat : �
 moves_push seats [] seat r = refl
 moves_push seats (one ∷ order) seat r = moves_push seats order seat (after_move seats one r)
 
+-- one order after another
+pub moves_append : (seats : List (List CheckedView)) (one two : List ℕ) (r : Round)
+    → after_moves seats (one ++ two) r ≡ after_moves seats two (after_moves seats one r)
+moves_append seats [] two r = refl
+moves_append seats (seat ∷ one) two r = moves_append seats one two (after_move seats seat r)
+
 and_left : (a b : Bool) → a && b ≡ true → a ≡ true
 and_left true b h = refl
 and_left false b h = h
@@ -258,15 +264,10 @@ module _ (script : Script) where
           ap (λ (o : List ℕ). (reached script o).kept) assoc ∙ kept in
           let first : (reached script (before ++ seat ∷ [])).kept ≡ true =
           kept_before script.seats after (reached script (before ++ seat ∷ []))
-          (sym (ap (λ (r : Round). r.kept) (moves_append (before ++ seat ∷ []) after (reached script []))) ∙ kept') in
+          (sym (ap (λ (r : Round). r.kept) (moves_append script.seats (before ++ seat ∷ []) after (reached script []))) ∙ kept') in
           subst (λ (o : List ℕ). IsAmong seen (state_of script.decls (reached script o))) assoc
           (seen_from (before ++ seat ∷ []) after (subst (λ (o : List ℕ). length o < GREATEST_NUMBER) (sym assoc) short)
           kept' (seen_next before seat (omega (arith, short, length-append before (seat ∷ after))) first h))
-        where
-          moves_append : (one two : List ℕ) (r : Round)
-              → after_moves script.seats (one ++ two) r ≡ after_moves script.seats two (after_moves script.seats one r)
-          moves_append [] two r = refl
-          moves_append (k ∷ one) two r = moves_append one two (after_move script.seats k r)
 
       seen_all : (order : List ℕ) → length order < GREATEST_NUMBER → (reached script order).kept ≡ true
           → IsAmong seen (state_of script.decls (reached script order))

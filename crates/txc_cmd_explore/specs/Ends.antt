@@ -5,7 +5,7 @@ use Rattle.txc_base.specs.Channel.{Channel}
 use Rattle.txc_chan.specs.declared.decl.Decl.{Decl}
 use Rattle.txc_txn.specs.Maps.{Map}
 use Rattle.txc_cmd_report.specs.declared.seat_end.SeatEnd.TheVariants.{Finished}
-use Rattle.txc_cmd_replay.specs.Rounds.{Round}
+use Rattle.txc_cmd_replay.specs.Rounds.{Round, SeatProgress, last_round}
 use Rattle.txc_cmd_script.specs.Script.{Script}
 use Rattle.txc_cmd_explore.specs.declared.state.Shape.{Shape}
 use Rattle.txc_cmd_explore.specs.declared.state.State.{State}
@@ -65,3 +65,13 @@ pub record IsExplored (script : Script) (found : List FoundEnd) : Type 0 where
 abbrev pub AllFinish : Script → Type 0
 AllFinish script = (order : List ℕ) → length order < GREATEST_NUMBER → IsEnd script order → (seat : ℕ)
     → seat < length script.seats → (turn_in script.seats seat (reached script order)).seat_progress.end ≡ Finished
+
+-- the replay of a script takes its turns in this order, except those that retry, and then no seat can move
+pub record IsReplayed (script : Script) (order : List ℕ) : Type 0 where
+  pub is_end : IsEnd script order
+  pub chans : (reached script order).chans ≡ (last_round script).chans
+  pub receipts : map (λ (s : SeatProgress). s.receipts) (reached script order).progress
+      ≡ map (λ (s : SeatProgress). s.receipts) (last_round script).progress
+  pub ends : (seat : ℕ) → seat < length script.seats
+      → (turn_in script.seats seat (reached script order)).seat_progress.end
+      ≡ slice_index_or (map (λ (s : SeatProgress). s.end) (last_round script).progress) seat Finished

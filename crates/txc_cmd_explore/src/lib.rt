@@ -13,7 +13,7 @@ mod state;
 mod text;
 
 pub use found_end::FoundEnd;
-pub use law::show_all_finish;
+pub use law::{show_all_finish, show_replay_is_an_order};
 pub use orders::{ExploreFault, explore};
 pub use state::{Shape, State};
 pub use text::{ends_status, ends_text};
