@@ -76,7 +76,7 @@ def fails(program, test, variables):
 
 
 def is_seen(edit, place, times):
-    """Whether the test that a mutant names fails in each of so many runs."""
+    """Whether the test that a mutant names fails in each of this number of runs."""
     name = f"{edit.parent.parent.name}/{edit.stem}"
     begun = time.monotonic()
     try:
